@@ -1,0 +1,4 @@
+pub mod Changes
+pub mod Checked
+pub mod Limits
+pub mod Meaning

@@ -1,0 +1,3 @@
+pub mod Order
+pub mod Points
+pub mod Ratings
