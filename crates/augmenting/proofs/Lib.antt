@@ -1,0 +1,5 @@
+pub mod Counts
+pub mod Passing
+pub mod Arrays
+pub mod Blocked
+pub mod Whole

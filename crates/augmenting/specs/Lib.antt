@@ -1,0 +1,4 @@
+pub mod Assigned
+pub mod Counting
+pub mod Owners
+pub mod Sets
