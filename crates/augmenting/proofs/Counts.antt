@@ -1,7 +1,7 @@
 -- Counting: one place left out, two tests compared, and the pigeonhole.
 use Prim.Native.Nat.{ℕ, zero, suc, _+_, _≤_, _<_}
 use Rattle.augmenting.specs.Counting.{count, any}
-use Rattle.std.proofs.shelf.Tests.{cases-eq, cases-bool, cases-lt, eq-eqb, ne-eqb, or-cases, or-left, or-right, or-from}
+use Rattle.std.proofs.shelf.Tests.{cases-eq, both-ways, cases-bool, cases-lt, eq-eqb, ne-eqb, or-cases, or-left, or-right, or-from}
 use lib.Dec.{eqb}
 use mathlib.Core.Bool.{Bool, true, false, not, _||_, cond}
 use mathlib.Core.Logic.{_⊎_, inl, inr, ⊎-elim}
@@ -64,6 +64,21 @@ count-without f (suc n) j l e = ⊎-elim here (there (λ h. count-without f n j 
         let a : bit (without f j n) ≡ bit (f n) = ap bit (without-other f j n d) in
         let c : count f n ≡ count (without f j) n + 1 = ih (omega arith) in
         omega (arith, a, c)
+
+-- a test that passes all that another does, and one place more
+pub count-lt :
+    (f g : ℕ → Bool) (n j : ℕ) → j < n → f j ≡ false → g j ≡ true → ((k : ℕ) → k < n → f k ≡ true → g k ≡ true)
+    → count f n < count g n
+count-lt f g n j l e d h =
+    let a : count g n ≡ count (without g j) n + 1 = count-without g n j l d in
+    let b : count f n ≤ count (without g j) n =
+    count-le f (without g j) n
+    (λ k m q.
+    ⊎-elim
+    (λ r. absurd (both-ways (f k) (ap f r ∙ e) q))
+    (λ r. without-other g j k r ∙ h k m q)
+    (cases-eq k j)) in
+    omega (arith, a, b)
 
 -- places past the first t that pass no test add nothing
 pub count-past :

@@ -3,3 +3,4 @@ pub mod Passing
 pub mod Arrays
 pub mod Blocked
 pub mod Whole
+pub mod Gathered
