@@ -1,0 +1,4 @@
+pub mod Ranks
+pub mod Rows
+pub mod Tops
+pub mod Lowering

@@ -1,0 +1,4 @@
+pub mod Codes
+pub mod Floors
+pub mod Grades
+pub mod Lowered
