@@ -16,6 +16,12 @@ pub struct Members {
 }
 
 impl Members {
+    pub fn none() -> Members
+        ensures { λ r. ⌜ ((k : ℕ) → seen (r .places) k ≡ false) ⌝ }
+    {
+        Members { places: nobody() }
+    }
+
     // A package, and all that own a marked translator.
     pub fn owners_and(pkg: u8, owner: &[u8; 64], visited: &[bool; 64]) -> Members
         ensures { λ r. ⌜ Owners-and (now (owner .entry)) (now (visited .entry)) pkg (r .places) ⌝ }

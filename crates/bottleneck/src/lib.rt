@@ -1,5 +1,10 @@
 // The bottleneck: the highest lowest grade of any plan, and the first plan that has it.
+mod best;
+mod floors;
 mod leads;
 mod table;
 
-pub use table::Table;
+pub use best::Best;
+pub use best::best_matching;
+use table::Table;
+use table::TablePattern;

@@ -7,6 +7,8 @@ use std::marker::PhantomData;
 mod joins;
 mod reads;
 
+pub use joins::TablePattern;
+
 // Code 0 is no grade. Without a floor no pair counts.
 pub struct Table<K> {
     codes: [u32; 3185],
@@ -16,4 +18,17 @@ pub struct Table<K> {
     kind: PhantomData<K>,
     ghost sized: { Within packages translators },
     ghost full: { length codes ≡ 3185 },
+}
+
+// There is nothing to give back, whatever the kind.
+impl<K> Drop for Table<K> {
+    fn drop(self) {
+        let Table {
+            codes: _,
+            packages: _,
+            translators: _,
+            floor: _,
+            kind: PhantomData,
+        } = self;
+    }
 }
