@@ -152,3 +152,9 @@ all-or P Q (suc n) h = ⊎-elim (λ a. ⊎-elim (λ b. inl (both a b)) (λ b. in
   where
     both : ((k : ℕ) → k < n → P k) → P n → (k : ℕ) → k < suc n → P k
     both a b k l = ⊎-elim (λ q. subst P (sym q) b) (λ d. a k (omega arith)) (cases-eq k n)
+
+pub any-same : (f g : ℕ → Bool) (n : ℕ) → ((k : ℕ) → k < n → f k ≡ g k) → any f n ≡ any g n
+unfolding any
+any-same f g zero h = refl
+any-same f g (suc n) h =
+    ap (λ b. b || any f n) (h n (omega arith)) ∙ ap (λ b. g n || b) (any-same f g n (λ k l. h k (omega arith)))

@@ -1,7 +1,7 @@
 -- The set of a package that is left over with the owners of the translators tried: one more than
 -- these, and in any wider pattern that reaches no others exactly one more than it reaches.
 use Prim.Native.Nat.{ℕ, _+_, _-_, _≤_, _<_}
-use Rattle.augmenting.proofs.Counts.{any-from, from-any, count-same, count-without, pigeon, without, without-other, without-same}
+use Rattle.augmenting.proofs.Counts.{any-from, any-same, from-any, count-same, count-without, pigeon, without, without-other, without-same}
 use Rattle.augmenting.specs.Assigned.{Assigns}
 use Rattle.augmenting.specs.Counting.{count, any}
 use Rattle.augmenting.specs.Owners.{Closed, Free, Matching, Tried, seen}
@@ -119,3 +119,13 @@ ruled-out C p t S m e a =
     pigeon S t (λ k j. (k < p) × (m k ≡ j)) (λ k n j q r. a .apart k n (q .0) (r .0) (q .1 ∙ sym (r .1))) p (reached C p S)
     (λ k l s. (m k, a .within k l, any-from (λ n. S n && C (n + 1) (m k + 1)) p k l (and-from (S k) (C (k + 1) (m k + 1)) s (a .joined k l)), (l, λ _. m k))) in
     omega (arith, enough, e)
+
+-- it does not matter what a set says of places past the packages
+pub same-members :
+    (C : ℕ → ℕ → Bool) (p t : ℕ) (S T : ℕ → Bool) → ((k : ℕ) → k < p → S k ≡ T k) → OneFewer C p t S → OneFewer C p t T
+same-members C p t S T h e =
+    let a : count S p ≡ count T p = count-same S T p h in
+    let b : count (reached C p S) t ≡ count (reached C p T) t =
+    count-same (reached C p S) (reached C p T) t
+    (λ j _. any-same (λ k. S k && C (k + 1) (j + 1)) (λ k. T k && C (k + 1) (j + 1)) p (λ k l. ap (λ x. x && C (k + 1) (j + 1)) (h k l))) in
+    omega (arith, a, b, e)

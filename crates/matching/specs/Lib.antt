@@ -1,0 +1,5 @@
+pub mod Answers
+pub mod Owned
+pub mod Plans
+pub mod Theorems
+pub mod Written
