@@ -7,7 +7,7 @@ ghost use mathlib.Core.Path.{_≡_};
 const ROW: u32 = 64;
 
 #[derive(Drop)]
-pub struct Cells {
+pub(crate) struct Cells {
     codes: [u32; 3072],
 }
 
@@ -48,5 +48,14 @@ impl Cells {
     {
         let at = place_of(pkg, translator);
         self.codes[at] = code;
+    }
+
+    pub fn clear(&mut self, pkg: u32, translator: u32)
+        requires row { ⌜ (1 ≤ pkg) × (pkg ≤ 48) ⌝ }
+        requires column { ⌜ (1 ≤ translator) × (translator ≤ 64) ⌝ }
+        ensures after { λ _. ⌜ now (self .exit) .codes ≡ set (now (self .entry) .codes) (place pkg translator) 0 ⌝ }
+        ensures whole { λ _. ⌜ length (now (self .entry) .codes) ≡ 3072 ⌝ }
+    {
+        self.write(pkg, translator, 0);
     }
 }

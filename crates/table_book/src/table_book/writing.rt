@@ -32,7 +32,7 @@ pub impl Book for TableBook as TableBookBook {
         if self.cells.code_at(pkg, translator) == 0 {
             return Err(Refusal::NothingThere);
         }
-        self.cells.write(pkg, translator, 0);
+        self.cells.clear(pkg, translator);
         Ok(())
     }
 }

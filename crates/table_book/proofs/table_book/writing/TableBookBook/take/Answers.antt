@@ -23,6 +23,6 @@ returns c =
     record {
       answer = done .answer;
       after =
-          meaning-changed p t codes (c .write .last .self .codes) a b 0 _ w (c .write .ensures .whole) i
-          (c .write .ensures .after) refl ∙ done .after;
+          meaning-changed p t codes (c .clear .last .self .codes) a b 0 _ w (c .clear .ensures .whole) i
+          (c .clear .ensures .after) refl ∙ done .after;
     }
