@@ -1,0 +1,4 @@
+pub mod Halving
+pub mod Listed
+pub mod Moves
+pub mod Pairs
