@@ -4,4 +4,5 @@ pub mod Kept
 pub mod Listed
 pub mod Means
 pub mod Moves
+pub mod Outcomes
 pub mod Pairs
