@@ -18,10 +18,7 @@ impl Entry {
     pub fn compare(&self, pkg: u32, translator: u32) -> Ordering
         ensures { λ r. ⌜ Ranked r (before (now (self .entry) .pkg) (now (self .entry) .translator) pkg translator ≡ true) ((now (self .entry) .pkg ≡ pkg) × (now (self .entry) .translator ≡ translator)) (before pkg translator (now (self .entry) .pkg) (now (self .entry) .translator) ≡ true) ⌝ }
     {
-        match self.pkg.cmp(&pkg) {
-            Ordering::Equal => self.translator.cmp(&translator),
-            apart => apart,
-        }
+        self.pkg.cmp(&pkg).then(self.translator.cmp(&translator))
     }
 
     // Replaces the code, and leaves the pair as it is.

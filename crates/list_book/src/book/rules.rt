@@ -59,23 +59,22 @@ pub impl Book for ListBook as ListBookBook {
         if code == 0 {
             return Err(Refusal::Grade);
         }
-        match self.rows.find(pkg, translator) {
+        let found = self.rows.find(pkg, translator);
+        if self.rows.lacks_room(&found) {
+            return Err(Refusal::Full);
+        }
+        match found {
             Ok(at) => {
                 self.rows.regrade(at, code);
                 Ok(())
             }
             Err(at) => {
-                if self.rows.is_full() {
-                    return Err(Refusal::Full);
-                }
-                self.rows.insert(
-                    at,
-                    Entry {
-                        pkg,
-                        translator,
-                        code,
-                    },
-                );
+                let entry = Entry {
+                    pkg,
+                    translator,
+                    code,
+                };
+                self.rows.insert(at, entry);
                 Ok(())
             }
         }
