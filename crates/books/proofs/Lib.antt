@@ -1,3 +1,4 @@
 pub mod Changes
 pub mod Inside
+pub mod Outcomes
 pub mod Standing
