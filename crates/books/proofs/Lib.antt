@@ -1,4 +1,3 @@
-pub mod Changes
 pub mod Inside
 pub mod Outcomes
 pub mod Standing

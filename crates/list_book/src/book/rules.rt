@@ -1,7 +1,6 @@
 // How a list book is made, read and changed.
-ghost use Rattle.books.specs.Meaning.{Empty};
+ghost use Rattle.books.specs.Meaning.{Blank};
 ghost use Rattle.list_book.specs.Meant.{meant};
-ghost use mathlib.Core.Path.{_≡_};
 use super::super::entry::Entry;
 use super::super::rows::Rows;
 use super::ListBook;
@@ -13,9 +12,7 @@ use refusals::Refusal;
 impl ListBook {
     // A book of these sizes without a grade.
     pub fn new(sizes: Sizes) -> ListBook
-        ensures packages { λ r. ⌜ meant r .packages ≡ sizes .packages ⌝ }
-        ensures translators { λ r. ⌜ meant r .translators ≡ sizes .translators ⌝ }
-        ensures empty { λ r. ⌜ Empty (meant r) ⌝ }
+        ensures { λ r. ⌜ Blank (sizes .packages) (sizes .translators) (meant r) ⌝ }
     {
         ListBook {
             sizes,

@@ -1,10 +1,9 @@
-use Rattle.books.proofs.Changes.{take-done, TakeDone}
+use Rattle.books.proofs.Outcomes.{take-accepted, take-makes}
+use Rattle.books.specs.Changes.{take-answer}
 use Rattle.books.specs.Limits.{inside}
-use Rattle.std.proofs.shelf.Tests.{ne-eqb}
-use Rattle.std.specs.Options.{isSome}
+use Rattle.std.specs.declared.result.Result.the-variants.{Ok}
 use Rattle.table_book.proofs.Writes.{meaning-changed, meaning-of, stands}
 use Rattle.table_book.proofs.table_book.writing.TableBookBook.take.Needs as need
-use Rattle.table_book.specs.Table.{table-grade}
 use mathlib.Core.Bool.{true}
 use mathlib.Core.Path.{_≡_, refl, sym, _∙_}
 
@@ -17,12 +16,12 @@ returns c =
     let b = c .args .translator in
     let i : inside p t a b ≡ true = sym (c .holds .ensures) ∙ c .if-not-holds .left in
     let w = c .args .self .now .sizes .within in
-    let done : TakeDone (meaning-of p t codes) a b =
-    take-done (meaning-of p t codes) a b i
+    let done : take-answer (meaning-of p t codes) a b ≡ Ok tt =
+    take-accepted (meaning-of p t codes) a b i
     (stands p t codes a b (c .code-at .result) i (c .code-at .ensures .value) (c .if-code-at-eq0 .left)) in
     record {
-      answer = done .answer;
+      answer = sym done;
       after =
           meaning-changed p t codes (c .clear .last .self .codes) a b 0 _ w (c .clear .ensures .whole) i
-          (c .clear .ensures .after) refl ∙ done .after;
+          (c .clear .ensures .after) refl ∙ sym (take-makes (meaning-of p t codes) a b done);
     }
