@@ -3,18 +3,18 @@ use Prim.Native.Nat.{ℕ}
 use Rattle.books.specs.Changes.{put-answer, put-after, take-answer, take-after}
 use Rattle.books.specs.Limits.{inside}
 use Rattle.books.specs.Meaning.{Meaning, with-grade, count}
-use Rattle.refusals.specs.declared.refusal.Refusal.{Refusal}
 use Rattle.refusals.specs.declared.refusal.Refusal.the-variants as refusal
+use Rattle.refusals.specs.declared.refusal.Refusal.{Refusal}
 use Rattle.std.proofs.shelf.Tests.{ne-eqb}
 use Rattle.std.specs.Options.{isSome}
 use Rattle.std.specs.Results.{isOk}
-use Rattle.std.specs.declared.option.Option.{Option}
 use Rattle.std.specs.declared.option.Option.the-variants.{Some, None}
-use Rattle.std.specs.declared.result.Result.{Result}
+use Rattle.std.specs.declared.option.Option.{Option}
 use Rattle.std.specs.declared.result.Result.the-variants.{Ok, Err}
+use Rattle.std.specs.declared.result.Result.{Result}
 use lib.Dec.{eqb}
 use mathlib.Core.Bool.{true, false, not, _&&_, cond}
-use mathlib.Core.Path.{_≡_, refl, ap}
+use mathlib.Core.Path.{_≡_, ap}
 
 pub put-accepted :
     (limit : ℕ) (m : Meaning) (a b code : ℕ) → inside (m .packages) (m .translators) a b ≡ true → (code ≡ 0 → ⊥)
