@@ -1,3 +1,4 @@
 pub mod Again
 pub mod Faults
+pub mod Once
 pub mod Taken
