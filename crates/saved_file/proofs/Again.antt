@@ -1,7 +1,7 @@
 -- A record read again from a checked file.
 use Prim.Native.Nat.{ℕ, _+_, _-_, _*_, _≤_}
-use Rattle.saved_file.specs.Layout.{six-bytes, record-in, start-of, whole}
-use Rattle.saved_file.specs.declared.records.GradeRecord.{GradeRecord}
+use Rattle.file_format.specs.Layout.{six-bytes, record-in, start-of, whole}
+use Rattle.file_format.specs.declared.records.GradeRecord.{GradeRecord}
 use Rattle.std.proofs.shelf.Lists.{take-rest, length-drop}
 use Rattle.std.proofs.shelf.Tests.{le-leb}
 use Rattle.std.proofs.shelf.Ways.{tells}

@@ -3,9 +3,9 @@ use Prim.Native.Nat.{ℕ, _<_, _≤_, _+_, _-_}
 use Rattle.refusals.specs.Faults.{fault-at}
 use Rattle.refusals.specs.declared.fault.Cause.{Cause}
 use Rattle.refusals.specs.declared.fault.Fault.{Fault}
-use Rattle.saved_file.specs.Layout.{count-in, start-of, last-of, record-in, six-bytes}
-use Rattle.saved_file.specs.Rules.{Expected, Part, Faulty, There, Right, Right-part, Records-right, rank, rules, first-broken, section-of, number-of, offset-of, answer, first-count, sheet-record, second-count, grade-record, the-end, first-count-rules, sheet-rules, second-count-rules, grade-rules, end-rules}
-use Rattle.saved_file.specs.declared.records.GradeRecord.{GradeRecord}
+use Rattle.file_format.specs.Layout.{count-in, start-of, last-of, record-in, six-bytes}
+use Rattle.file_format.specs.Rules.{Expected, Part, Faulty, There, Right, Right-part, Records-right, rank, rules, first-broken, section-of, number-of, offset-of, answer, first-count, sheet-record, second-count, grade-record, the-end, first-count-rules, sheet-rules, second-count-rules, grade-rules, end-rules}
+use Rattle.file_format.specs.declared.records.GradeRecord.{GradeRecord}
 use Rattle.std.proofs.shelf.Tests.{cases-eq, ne-eqb, cond-false}
 use Rattle.std.specs.declared.option.Option.{Option}
 use Rattle.std.specs.declared.option.Option.the-variants.{Some, None}

@@ -1,4 +1,3 @@
 pub mod Again
 pub mod Faults
-pub mod Once
 pub mod Taken

@@ -1,8 +1,6 @@
-// The saved file of a sheet: which bytes it is, and what is wrong with any other bytes.
+// The reader of a saved file: the grades in it, or what is wrong with it and where.
 mod checked;
 mod cursor;
-mod records;
 
 pub use checked::CheckedFile;
 pub use checked::check_file;
-pub use records::GradeRecord;

@@ -1,6 +1,6 @@
 // Reading a whole file: its sections in order, and then nothing.
-ghost use Rattle.saved_file.specs.Layout.{count-in};
-ghost use Rattle.saved_file.specs.Rules.{Faulty, Right, just};
+ghost use Rattle.file_format.specs.Layout.{count-in};
+ghost use Rattle.file_format.specs.Rules.{Faulty, Right, just};
 ghost use Rattle.std.specs.Results.{Cases};
 ghost use mathlib.Core.Path.{_≡_};
 use super::CheckedFile;

@@ -1,12 +1,12 @@
 // What a checked file tells.
-ghost use Rattle.saved_file.specs.Layout.{record-in, six-bytes, start-of, whole};
+ghost use Rattle.file_format.specs.Layout.{record-in, six-bytes, start-of, whole};
 ghost use Rattle.std.specs.declared.option.Option.the-variants.{Some, None};
 ghost use lib.Dec.{leb};
 ghost use lib.ListN.{length};
 ghost use mathlib.Core.Bool.{_&&_, cond};
 ghost use mathlib.Core.Path.{_≡_};
 use super::CheckedFile;
-use crate::records::GradeRecord;
+use file_format::GradeRecord;
 
 // The grade record at the front of some bytes, if they are enough.
 fn front_record(bytes: &[u8]) -> Option<GradeRecord>

@@ -1,16 +1,16 @@
 // The layer of bytes: counts and records are taken from the file, or found not to be whole.
 ghost use Prim.Native.Nat.{_+_};
 ghost use Rattle.refusals.specs.declared.fault.Cause.the-variants.{NotWhole};
-ghost use Rattle.saved_file.specs.Layout.{two-bytes, three-bytes, six-bytes, whole};
-ghost use Rattle.saved_file.specs.Rules.{answer, first-broken};
+ghost use Rattle.file_format.specs.Layout.{two-bytes, three-bytes, six-bytes, whole};
+ghost use Rattle.file_format.specs.Rules.{answer, first-broken};
 ghost use Rattle.std.specs.Results.{isOk};
 ghost use lib.ListN.{drop};
 ghost use mathlib.Core.Bool.{cond};
 ghost use mathlib.Core.List.{[], _∷_};
 ghost use mathlib.Core.Path.{_≡_};
 use super::Cursor;
-use crate::records::GradeRecord;
-use crate::records::SheetRecord;
+use file_format::GradeRecord;
+use file_format::SheetRecord;
 use refusals::Cause;
 use refusals::Fault;
 

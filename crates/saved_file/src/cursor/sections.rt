@@ -1,7 +1,7 @@
 // The sections of a file, one after the other.
 ghost use Prim.Native.Nat.{_+_, _≤_};
-ghost use Rattle.saved_file.specs.Layout.{count-in, start-of};
-ghost use Rattle.saved_file.specs.Rules.{Faulty, Records-right, Right-part, first-count, just, second-count, sheet-record};
+ghost use Rattle.file_format.specs.Layout.{count-in, start-of};
+ghost use Rattle.file_format.specs.Rules.{Faulty, Records-right, Right-part, first-count, just, second-count, sheet-record};
 ghost use Rattle.std.specs.Results.{Cases};
 ghost use mathlib.Core.Path.{_≡_};
 use super::Cursor;

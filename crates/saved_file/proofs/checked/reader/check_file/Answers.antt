@@ -1,6 +1,6 @@
 use Rattle.saved_file.proofs.Faults.{Walked, walked, in-the-end, all-right}
 use Rattle.saved_file.proofs.checked.reader.check_file.Needs as need
-use Rattle.saved_file.specs.Rules.{just}
+use Rattle.file_format.specs.Rules.{just}
 use Rattle.std.proofs.shelf.Results.{err-from-errBy}
 use borrow.Author.Needs.{needs}
 use mathlib.Core.Path.{_∙_}

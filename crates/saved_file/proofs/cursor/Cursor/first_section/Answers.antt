@@ -1,6 +1,6 @@
 use Rattle.saved_file.proofs.Faults.{in-first-count, in-sheet-record, right-here, right-sheet-record}
 use Rattle.saved_file.proofs.cursor.Cursor.first_section.Needs as need
-use Rattle.saved_file.specs.Rules.{just, first-count}
+use Rattle.file_format.specs.Rules.{just, first-count}
 use Rattle.std.proofs.shelf.Results.{err-from-errBy}
 use borrow.Author.Needs.{needs}
 

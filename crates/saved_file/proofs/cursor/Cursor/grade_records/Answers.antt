@@ -1,8 +1,8 @@
 use Prim.Native.Nat.{_<_}
 use Rattle.saved_file.proofs.Faults.{in-grade-record, right-grade-record, records-more}
 use Rattle.saved_file.proofs.cursor.Cursor.grade_records.Needs as need
-use Rattle.saved_file.specs.Layout.{count-in}
-use Rattle.saved_file.specs.Rules.{just}
+use Rattle.file_format.specs.Layout.{count-in}
+use Rattle.file_format.specs.Rules.{just}
 use Rattle.std.proofs.shelf.Results.{err-from-errBy}
 use borrow.Author.Needs.{needs}
 use mathlib.Core.Path.{_∙_}

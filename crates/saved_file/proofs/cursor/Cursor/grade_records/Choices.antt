@@ -1,7 +1,7 @@
 use Prim.Native.Nat.{_+_}
 use Rattle.saved_file.proofs.cursor.Cursor.grade_records.Given as given
-use Rattle.saved_file.specs.Layout.{start-of, last-of}
-use Rattle.saved_file.specs.Rules.{Records-right, just}
+use Rattle.file_format.specs.Layout.{start-of, last-of}
+use Rattle.file_format.specs.Rules.{Records-right, just}
 use mathlib.Core.Path.{_≡_}
 
 abbrev pub Inv-loop-done : given.InvT-loop-done

@@ -1,6 +1,6 @@
 use Rattle.saved_file.proofs.Faults.{in-second-count}
 use Rattle.saved_file.proofs.cursor.Cursor.second_section.Needs as need
-use Rattle.saved_file.specs.Rules.{just}
+use Rattle.file_format.specs.Rules.{just}
 use Rattle.std.proofs.shelf.Results.{err-from-errBy}
 use borrow.Author.Needs.{needs}
 

@@ -5,8 +5,8 @@ use Rattle.refusals.specs.Faults.{fault-at}
 use Rattle.refusals.specs.declared.fault.Cause.{Cause}
 use Rattle.refusals.specs.declared.fault.Cause.the-variants as cause
 use Rattle.refusals.specs.declared.fault.Fault.{Fault}
-use Rattle.saved_file.specs.Layout.{two-bytes, six-bytes, whole, sheet-in, count-in, start-of, after, last-of}
-use Rattle.saved_file.specs.declared.records.GradeRecord.{GradeRecord}
+use Rattle.file_format.specs.Layout.{two-bytes, six-bytes, whole, sheet-in, count-in, start-of, after, last-of}
+use Rattle.file_format.specs.declared.records.GradeRecord.{GradeRecord}
 use Rattle.std.specs.declared.option.Option.{Option}
 use Rattle.std.specs.declared.option.Option.the-variants.{Some, None}
 use Rattle.std.specs.declared.result.Result.{Result}

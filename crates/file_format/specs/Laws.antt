@@ -1,7 +1,7 @@
 -- What holds of every file, whoever reads it.
 use Prim.Native.Nat.{ℕ}
 use Rattle.refusals.specs.declared.fault.Fault.{Fault}
-use Rattle.saved_file.specs.Rules.{Expected, Right, Faulty}
+use Rattle.file_format.specs.Rules.{Expected, Right, Faulty}
 use mathlib.Core.List.{List}
 use mathlib.Core.Logic.{_⊎_}
 use mathlib.Core.Path.{_≡_}

@@ -4,9 +4,9 @@ use Prim.Native.Nat.{ℕ, zero, suc, _+_, _<_, _≤_}
 use Rattle.refusals.specs.Faults.{fault-at}
 use Rattle.refusals.specs.declared.fault.Cause.{Cause}
 use Rattle.refusals.specs.declared.fault.Fault.{Fault}
-use Rattle.saved_file.specs.Laws.{Right-or-one-fault}
-use Rattle.saved_file.specs.Layout.{count-in}
-use Rattle.saved_file.specs.Rules.{Expected, Part, Faulty, There, Right, Right-part, rank, rules, first-broken, section-of, number-of, offset-of, first-count, sheet-record, second-count, grade-record, the-end}
+use Rattle.file_format.specs.Laws.{Right-or-one-fault}
+use Rattle.file_format.specs.Layout.{count-in}
+use Rattle.file_format.specs.Rules.{Expected, Part, Faulty, There, Right, Right-part, rank, rules, first-broken, section-of, number-of, offset-of, first-count, sheet-record, second-count, grade-record, the-end}
 use Rattle.std.proofs.shelf.Tests.{cases-lt, cases-order, cond-true, cond-false, lt-ltb, le-ltb}
 use Rattle.std.specs.declared.option.Option.{Option}
 use Rattle.std.specs.declared.option.Option.the-variants.{Some, None}
@@ -77,15 +77,17 @@ found e bs (suc m) l = ⊎-elim next inr (found e bs m (omega arith))
             subst (Right-part e bs) s k)
             (cases-lt (rank bs q) m))
         go (Some c) k =
-            inr (fault-at c (section-of (here .0)) (number-of (here .0)) (offset-of bs (here .0)),
-            record {
-              part = here .0;
-              there = here .1;
-              earlier = λ q t h. old q t (omega (arith, here .2));
-              broken = c;
-              first = k;
-              told = refl
-            })
+            inr (
+              fault-at c (section-of (here .0)) (number-of (here .0)) (offset-of bs (here .0)),
+              record {
+                part = here .0;
+                there = here .1;
+                earlier = λ q t h. old q t (omega (arith, here .2));
+                broken = c;
+                first = k;
+                told = refl;
+              },
+            )
 
 rank-le : (bs : List ℕ) (q : Part) → There bs q → rank bs q < 4 + count-in bs
 rank-le bs first-count t = omega arith

@@ -2,7 +2,7 @@
 use Prim.Native.Nat.{ℕ, zero, suc, _+_, _*_, _/_, _%_, _^_, _<_}
 use Rattle.books.specs.Limits.{Within, inside}
 use Rattle.books.specs.Meaning.{changed, standing}
-use Rattle.saved_file.specs.Layout.{count-in, record-in}
+use Rattle.file_format.specs.Layout.{count-in, record-in}
 use Rattle.std.specs.declared.option.Option.{Option}
 use Rattle.std.specs.declared.option.Option.the-variants.{Some, None}
 use lib.Dec.{eqb}

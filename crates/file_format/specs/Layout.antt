@@ -1,8 +1,8 @@
 -- Where everything stands in a saved file: a count of two bytes, one record of three bytes, a second
 -- count, and grade records of six bytes each. Numbers of several bytes have the low byte first.
 use Prim.Native.Nat.{ℕ, _+_, _*_}
-use Rattle.saved_file.specs.declared.records.GradeRecord.{GradeRecord}
-use Rattle.saved_file.specs.declared.records.SheetRecord.{SheetRecord}
+use Rattle.file_format.specs.declared.records.GradeRecord.{GradeRecord}
+use Rattle.file_format.specs.declared.records.SheetRecord.{SheetRecord}
 use Rattle.std.specs.declared.option.Option.{Option}
 use Rattle.std.specs.declared.option.Option.the-variants.{Some, None}
 use lib.Dec.{leb, ltb, eqb}
