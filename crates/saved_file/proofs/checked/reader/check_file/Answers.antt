@@ -1,25 +1,30 @@
-use Rattle.saved_file.proofs.Faults.{Walked, walked, in-the-end, all-right}
+use Rattle.file_format.proofs.Once.{right-or-one-fault}
+use Rattle.file_format.proofs.RoundTrip.{right-is-the-file}
+use Rattle.saved_file.proofs.Faults.{not-a-file}
 use Rattle.saved_file.proofs.checked.reader.check_file.Needs as need
-use Rattle.file_format.specs.Rules.{just}
 use Rattle.std.proofs.shelf.Results.{err-from-errBy}
 use borrow.Author.Needs.{needs}
-use mathlib.Core.Path.{_∙_}
 
-pub returns-in-Break-at-the-end : need.returns-in-Break-at-the-end
-returns-in-Break-at-the-end g c =
-    let e = just (g .K·Kind .number) (g .K·Kind .valid) (c .args .sizes .packages) (c .args .sizes .translators) in
-    let a = c .in-Continue-first-section .ensures tt .told in
-    let b = c .in-Continue-count .ensures tt .told in
-    let w =
-    walked e (c .args .file .now) (c .new-cursor .result .file .now) (c .first-section .last .self .file .now)
-    (c .in-Continue-count .count) (c .new-cursor .ensures .file) (c .first-section .ensures .file) (a .1) (a .2)
-    (b .2) (b .3) (b .0) in
-    let p = err-from-errBy (c .from-residual-in-Break-at-the-end .result) (c .from-residual-in-Break-at-the-end .ensures .1) in
+pub returns : need.returns
+returns g c =
+    let h = c .in-Continue-count .ensures tt in
     record {
-      told =
-          rw (p .1, p .2)
-          (in-the-end e (c .args .file .now) (c .second-section .last .self .file .now)
-          (c .second-section .ensures .file ∙ c .first-section .ensures .file ∙ c .new-cursor .ensures .file)
-          (w .first) (w .sheet) (w .second) (w .records) (c .in-Break-at-the-end .field-0 .0)
-          (c .in-Break-at-the-end .ensures tt));
+      told = search needs;
+      accepted =
+          right-is-the-file (g .K·Kind .number) (g .K·Kind .valid) (c .args .sizes .packages) (c .args .sizes .translators)
+          (c .args .file .now) (c .args .sizes .within) (h .bytes) (h .told .1);
+      once = right-or-one-fault;
+    }
+
+pub returns-in-Break-count : need.returns-in-Break-count
+returns-in-Break-count g c =
+    let p = err-from-errBy (c .from-residual .result) (c .from-residual .ensures .1) in
+    let h = c .in-Break-count .ensures tt in
+    record {
+      told = rw (p .1, p .2) (h .told);
+      accepted =
+          rw (p .1)
+          (not-a-file (g .K·Kind .number) (g .K·Kind .valid) (c .args .sizes .packages) (c .args .sizes .translators)
+          (c .args .file .now) (c .in-Break-count .field-0 .0) (h .told));
+      once = right-or-one-fault;
     }
