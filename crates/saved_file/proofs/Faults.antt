@@ -2,24 +2,21 @@
 use Prim.Native.Nat.{ℕ, _<_, _≤_, _+_, _-_}
 use Rattle.refusals.specs.Faults.{fault-at}
 use Rattle.refusals.specs.declared.fault.Cause.{Cause}
-use Rattle.refusals.specs.declared.fault.Cause.the-variants.{LeftOver}
 use Rattle.refusals.specs.declared.fault.Fault.{Fault}
 use Rattle.file_format.proofs.Once.{right-or-one-fault}
 use Rattle.file_format.proofs.RoundTrip.{file-is-right}
 use Rattle.file_format.specs.FileOf.{Graded, file-of}
-use Rattle.file_format.specs.Laws.{Bytes}
 use Rattle.file_format.specs.Layout.{count-in, start-of, last-of, record-in, six-bytes}
 use Rattle.file_format.specs.Rules.{just, Expected, Part, Faulty, There, Right, Right-part, Records-right, rank, rules, first-broken, section-of, number-of, offset-of, answer, first-count, sheet-record, second-count, grade-record, the-end, first-count-rules, sheet-rules, second-count-rules, grade-rules, end-rules}
 use Rattle.file_format.specs.declared.records.GradeRecord.{GradeRecord}
-use Rattle.std.proofs.shelf.Lists.{getD-past}
-use Rattle.std.proofs.shelf.Tests.{cases-eq, cases-bool, cases-lt, leb-true, ne-eqb, cond-false}
+use Rattle.std.proofs.shelf.Tests.{cases-eq, cond-false, ne-eqb}
 use Rattle.std.specs.declared.option.Option.{Option}
 use Rattle.std.specs.declared.option.Option.the-variants.{Some, None}
 use Rattle.std.specs.declared.result.Result.{Result}
 use Rattle.std.specs.declared.result.Result.the-variants.{Ok, Err}
-use lib.Dec.{eqb, leb}
-use lib.ListN.{length, getD, drop}
-use mathlib.Core.Bool.{Bool, false}
+use lib.Dec.{eqb}
+use lib.ListN.{drop}
+use mathlib.Core.Bool.{Bool}
 use mathlib.Core.List.{List}
 use mathlib.Core.Logic.{⊎-elim}
 use mathlib.Core.Path.{_≡_, refl, sym, ap, subst, _∙_}
@@ -207,32 +204,6 @@ walked e bs cs ds n s u a b c d k =
       second = subst (λ ys. Right-part e ys second-count) (u ∙ s) c;
       records = subst (λ ys. Records-right e ys (count-in ys)) (u ∙ s) (subst (λ m. Records-right e ds m) k d);
     }
-
--- a file read to its end is a string of bytes
-pub all-bytes :
-    (bs cs ds : List ℕ) (n at : ℕ) → cs ≡ bs → ds ≡ bs → n ≡ count-in ds → at ≡ start-of (n + 1)
-    → ((k : ℕ) → k < at → getD cs k 0 < 256)
-    → Ok tt ≡ answer {A = Unit {0}} (first-broken (end-rules cs)) 0 0 (start-of (count-in cs + 1)) tt → Bytes bs
-all-bytes bs cs ds n at s u k a b h = subst Bytes s each
-  where
-    no-more : length cs ≤ start-of (count-in cs + 1)
-    no-more =
-        ⊎-elim (leb-true (length cs) (start-of (count-in cs + 1))) left-over
-        (cases-bool (leb (length cs) (start-of (count-in cs + 1))))
-      where
-        left-over : leb (length cs) (start-of (count-in cs + 1)) ≡ false → length cs ≤ start-of (count-in cs + 1)
-        left-over e =
-            let j : Ok tt ≡ Err (fault-at LeftOver 0 0 (start-of (count-in cs + 1))) =
-            h ∙ ap (λ q. answer {A = Unit {0}} q 0 0 (start-of (count-in cs + 1)) tt)
-            (cond-false (leb (length cs) (start-of (count-in cs + 1))) None (Some LeftOver) e) in
-            absurd (let z : _≡_ {A = ℕ} 0 1 = cc in omega arith)
-
-    ends : length cs ≤ at
-    ends = let q : count-in cs ≡ count-in ds = ap count-in (s ∙ sym u) in omega (arith, no-more, q, k, a)
-
-    each : Bytes cs
-    each i =
-        ⊎-elim (λ l. b i (omega (arith, ends))) (λ l. subst (λ x. x < 256) (sym (getD-past cs i 0 l)) (omega arith)) (cases-lt i (length cs))
 
 -- a file with a fault is no file of grades of the kind
 pub not-a-file :

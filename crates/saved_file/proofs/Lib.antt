@@ -1,3 +1,2 @@
 pub mod Again
 pub mod Faults
-pub mod Taken

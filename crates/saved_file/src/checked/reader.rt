@@ -1,11 +1,10 @@
 // Reading a whole file: its sections in order, and then nothing.
 ghost use Prim.Native.Nat.{ℕ};
 ghost use Rattle.file_format.specs.FileOf.{Graded, file-of, grade-in};
-ghost use Rattle.file_format.specs.Laws.{Bytes, Right-or-one-fault};
+ghost use Rattle.file_format.specs.Laws.{Right-or-one-fault};
 ghost use Rattle.file_format.specs.Layout.{count-in};
 ghost use Rattle.file_format.specs.Rules.{Faulty, Right, just};
 ghost use Rattle.std.specs.Results.{Cases};
-ghost use Rattle.std.specs.Vec.{made};
 ghost use Rattle.std.specs.declared.option.Option.{Option as Optional};
 ghost use mathlib.Core.Path.{_≡_};
 use super::CheckedFile;
@@ -16,8 +15,7 @@ use refusals::Fault;
 
 // How many grade records a right file has; else its fault.
 fn read_sections<K: Kind>(file: &[u8], sizes: Sizes) -> Result<u16, Fault>
-    ensures told { λ r. ⌜ Cases r (λ n. (n ≡ count-in (now (file .entry))) × Right (just number valid (sizes .packages) (sizes .translators)) (now (file .entry))) (λ fault. Faulty (just number valid (sizes .packages) (sizes .translators)) (now (file .entry)) fault) ⌝ }
-    ensures bytes { λ r. ⌜ made r (λ _. Bytes (now (file .entry))) ⌝ }
+    ensures { λ r. ⌜ Cases r (λ n. (n ≡ count-in (now (file .entry))) × Right (just number valid (sizes .packages) (sizes .translators)) (now (file .entry))) (λ fault. Faulty (just number valid (sizes .packages) (sizes .translators)) (now (file .entry)) fault) ⌝ }
 {
     let mut cursor = Cursor::new(file);
     cursor.first_section::<K>(sizes)?;

@@ -12,7 +12,7 @@ returns g c =
       told = search needs;
       accepted =
           right-is-the-file (g .K·Kind .number) (g .K·Kind .valid) (c .args .sizes .packages) (c .args .sizes .translators)
-          (c .args .file .now) (c .args .sizes .within) (h .bytes) (h .told .1);
+          (c .args .file .now) (c .args .sizes .within) (λ k. c .typed .file k .fits) (h .1);
       once = right-or-one-fault;
     }
 
@@ -21,10 +21,10 @@ returns-in-Break-count g c =
     let p = err-from-errBy (c .from-residual .result) (c .from-residual .ensures .1) in
     let h = c .in-Break-count .ensures tt in
     record {
-      told = rw (p .1, p .2) (h .told);
+      told = rw (p .1, p .2) h;
       accepted =
           rw (p .1)
           (not-a-file (g .K·Kind .number) (g .K·Kind .valid) (c .args .sizes .packages) (c .args .sizes .translators)
-          (c .args .file .now) (c .in-Break-count .field-0 .0) (h .told));
+          (c .args .file .now) (c .in-Break-count .field-0 .0) h);
       once = right-or-one-fault;
     }

@@ -1,8 +1,7 @@
-use Rattle.saved_file.proofs.Faults.{all-bytes, in-the-end, walked}
+use Rattle.saved_file.proofs.Faults.{in-the-end, walked}
 use Rattle.saved_file.proofs.checked.reader.read_sections.Needs as need
 use Rattle.file_format.specs.Rules.{just}
 use Rattle.std.proofs.shelf.Results.{err-from-errBy}
-use borrow.Author.Needs.{needs}
 use mathlib.Core.Path.{_∙_}
 
 pub returns-in-Break-at-the-end : need.returns-in-Break-at-the-end
@@ -15,25 +14,8 @@ returns-in-Break-at-the-end g c =
     (c .in-Continue-count .count) (c .new-cursor .ensures .file) (c .first-section .ensures .file) (a .1) (a .2)
     (b .2) (b .3) (b .0) in
     let p = err-from-errBy (c .from-residual-in-Break-at-the-end .result) (c .from-residual-in-Break-at-the-end .ensures .1) in
-    record {
-      told =
-          rw (p .1, p .2)
-          (in-the-end e (c .args .file .now) (c .second-section .last .self .file .now)
-          (c .second-section .ensures .file ∙ c .first-section .ensures .file ∙ c .new-cursor .ensures .file)
-          (w .first) (w .sheet) (w .second) (w .records) (c .in-Break-at-the-end .field-0 .0)
-          (c .in-Break-at-the-end .ensures tt));
-      bytes = rw (p .1) tt;
-    }
-
-pub returns : need.returns
-returns g c =
-    let b = c .in-Continue-count .ensures tt .told in
-    record {
-      told = search needs;
-      bytes =
-          all-bytes (c .args .file .now) (c .second-section .last .self .file .now) (c .first-section .last .self .file .now)
-          (c .in-Continue-count .count) (c .second-section .last .self .at)
-          (c .second-section .ensures .file ∙ c .first-section .ensures .file ∙ c .new-cursor .ensures .file)
-          (c .first-section .ensures .file ∙ c .new-cursor .ensures .file) (b .0) (b .1)
-          (c .second-section .last .self .read) (c .in-Continue-at-the-end .ensures tt);
-    }
+    rw (p .1, p .2)
+    (in-the-end e (c .args .file .now) (c .second-section .last .self .file .now)
+    (c .second-section .ensures .file ∙ c .first-section .ensures .file ∙ c .new-cursor .ensures .file)
+    (w .first) (w .sheet) (w .second) (w .records) (c .in-Break-at-the-end .field-0 .0)
+    (c .in-Break-at-the-end .ensures tt))
