@@ -69,6 +69,12 @@ code-of-some o c e l code h =
 pub code-of-none : (o : Option ℕ) → o ≡ None → Code-fits o
 code-of-none o e code h = absurd (let z : _≡_ {A = ℕ} 0 1 = cc in omega arith)
 
+pub row-fits-none : (f : ℕ → Option ℕ) → Row-fits f 0
+row-fits-none f j l m = absurd (omega arith)
+
+pub codes-fit-none : (G : ℕ → ℕ → Option ℕ) (t : ℕ) → Codes-fit G 0 t
+codes-fit-none G t i l m = absurd (omega arith)
+
 pub row-fits-more :
     (f : ℕ → Option ℕ) (n : ℕ) → Row-fits f n → Code-fits (f (n + 1)) → Row-fits f (n + 1)
 row-fits-more f n h k j l m =

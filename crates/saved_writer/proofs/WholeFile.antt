@@ -1,19 +1,25 @@
 -- A buffer too short for a file, and one with room for it.
-use Prim.Native.Nat.{ℕ, _+_, _*_, _<_, _≤_}
-use Rattle.books.specs.Meaning.{Meaning, count}
+use Prim.Native.Nat.{ℕ, _+_, _*_, _^_, _<_, _≤_}
+use Rattle.books.specs.Limits.{inside}
+use Rattle.books.specs.Meaning.{Meaning, Sound, count}
+use Rattle.file_format.proofs.Orders.{inside-parts}
+use Rattle.file_format.proofs.RoundTrip.{file-is-right}
 use Rattle.file_format.specs.FileOf.{head-bytes, grades-bytes}
 use Rattle.refusals.specs.declared.refusal.Refusal.{Refusal}
 use Rattle.refusals.specs.declared.refusal.Refusal.the-variants.{Space}
 use Rattle.saved_writer.proofs.Lengths.{length-grades}
 use Rattle.saved_writer.proofs.Places.{put-first, put-put}
-use Rattle.saved_writer.specs.Written.{file-of-meaning, put-at, write-after, write-answer}
+use Rattle.saved_writer.specs.Written.{Codes-fit, Reads-back, file-of-meaning, put-at, write-after, write-answer}
 use Rattle.std.proofs.shelf.Lists.{length-append}
-use Rattle.std.proofs.shelf.Tests.{cond-false, cond-true, le-leb, lt-leb}
+use Rattle.std.proofs.shelf.Tests.{cases-bool, cond-false, cond-true, le-leb, lt-leb}
+use Rattle.std.specs.declared.option.Option.the-variants.{Some}
 use Rattle.std.specs.declared.result.Result.{Result}
 use Rattle.std.specs.declared.result.Result.the-variants.{Ok, Err}
 use lib.Dec.{leb}
 use lib.ListN.{length, drop}
+use mathlib.Core.Bool.{Bool}
 use mathlib.Core.List.{List, _++_}
+use mathlib.Core.Logic.{⊎-elim}
 use mathlib.Core.Path.{_≡_, refl, sym, ap, _∙_}
 use native.Mathlib.Omega.{arith}
 
@@ -56,3 +62,19 @@ module _ (number : ℕ) (m : Meaning) (buffer : List ℕ) where
       let hs : head-bytes k p t c ≡ head-bytes number (m .packages) (m .translators) (count m) = cc in
       v ∙ ap (λ ys. put-at ys 7 gs) (u ∙ ap (put-at buffer 0) hs) ∙ put-put buffer 0 7 head gs refl (omega arith)
       ∙ put-first buffer f ∙ sym (cond-true (leb (length f) (length buffer)) (f ++ drop (length f) buffer) buffer w)
+
+pub reads-back :
+    (number : ℕ) (valid : ℕ → Bool) (m : Meaning) → Sound m → Codes-fit (m .grade) (m .packages) (m .translators)
+    → Reads-back number valid m
+reads-back number valid m s f h =
+    file-is-right number valid (m .packages) (m .translators) (m .grade)
+    (record { sizes = s .sizes; outside = s .outside; codes = λ i j code e. (h i j code e, fits i j code e) })
+  where
+    fits : (i j code : ℕ) → m .grade i j ≡ Some code → code < 2 ^ 32
+    fits i j code e =
+        ⊎-elim
+        (λ w.
+        let v = inside-parts (m .packages) (m .translators) i j w in
+        f i (v .low-pkg) (v .high-pkg) j (v .low-translator) (v .high-translator) code e)
+        (λ w. let k = s .outside i j w in absurd (let z : _≡_ {A = ℕ} 0 1 = cc in omega arith))
+        (cases-bool (inside (m .packages) (m .translators) i j))

@@ -1,7 +1,8 @@
 -- What writing into a lent buffer leaves and answers.
 use Prim.Native.Nat.{ℕ, _+_, _^_, _<_, _≤_}
 use Rattle.books.specs.Meaning.{Meaning}
-use Rattle.file_format.specs.FileOf.{file-of}
+use Rattle.file_format.specs.FileOf.{file-of, grade-in}
+use Rattle.file_format.specs.Rules.{Right, just}
 use Rattle.refusals.specs.declared.refusal.Refusal.{Refusal}
 use Rattle.refusals.specs.declared.refusal.Refusal.the-variants.{Space}
 use Rattle.std.specs.declared.option.Option.{Option}
@@ -10,7 +11,7 @@ use Rattle.std.specs.declared.result.Result.{Result}
 use Rattle.std.specs.declared.result.Result.the-variants.{Ok, Err}
 use lib.Dec.{leb}
 use lib.ListN.{length, take, drop}
-use mathlib.Core.Bool.{cond}
+use mathlib.Core.Bool.{Bool, true, cond}
 use mathlib.Core.List.{List, _++_}
 use mathlib.Core.Path.{_≡_}
 
@@ -39,3 +40,10 @@ Row-fits f t = (j : ℕ) → 1 ≤ j → j ≤ t → Code-fits (f j)
 
 abbrev pub Codes-fit : (ℕ → ℕ → Option ℕ) → ℕ → ℕ → Type 0
 Codes-fit G p t = (i : ℕ) → 1 ≤ i → i ≤ p → Row-fits (G i) t
+
+-- where every code is valid in the kind, the file is right and the grades in it are those of the book
+abbrev pub Reads-back : ℕ → (ℕ → Bool) → Meaning → Type 0
+Reads-back number valid m =
+    ((i j code : ℕ) → m .grade i j ≡ Some code → valid code ≡ true)
+    → Right (just number valid (m .packages) (m .translators)) (file-of-meaning number m)
+    × ((i j : ℕ) → grade-in (file-of-meaning number m) i j ≡ m .grade i j)

@@ -2,7 +2,7 @@
 ghost use Prim.Native.Nat.{_+_, _*_, _≤_};
 ghost use Rattle.books.specs.Meaning.{count, in-row, one};
 ghost use Rattle.file_format.specs.FileOf.{grade-bytes, grades-bytes, head-bytes, of-grade, row-bytes};
-ghost use Rattle.saved_writer.specs.Written.{Code-fits, Codes-fit, Row-fits, file-of-meaning, put-at, write-after, write-answer};
+ghost use Rattle.saved_writer.specs.Written.{Code-fits, Codes-fit, Reads-back, Row-fits, file-of-meaning, put-at, write-after, write-answer};
 ghost use Rattle.std.specs.Vec.{made};
 ghost use lib.ListN.{length};
 ghost use mathlib.Core.Path.{_≡_};
@@ -86,7 +86,7 @@ fn write_rows<R: Reading>(book: &R, out: &mut [u8])
 pub fn write_file<K: Kind, R: Reading>(book: &R, out: &mut [u8]) -> Result<usize, Refusal>
     ensures answer { λ r. ⌜ r ≡ write-answer (file-of-meaning number (meaning (now (book .entry)))) (now (out .entry)) ⌝ }
     ensures after { λ _. ⌜ now (out .exit) ≡ write-after (file-of-meaning number (meaning (now (book .entry)))) (now (out .entry)) ⌝ }
-    ensures codes { λ r. ⌜ made r (λ _. Codes-fit (meaning (now (book .entry)) .grade) (meaning (now (book .entry)) .packages) (meaning (now (book .entry)) .translators)) ⌝ }
+    ensures read_back { λ r. ⌜ made r (λ _. Reads-back number valid (meaning (now (book .entry)))) ⌝ }
 {
     let count = standing_grades(book);
     let length = 7 + 6 * usize::from(count);

@@ -1,5 +1,5 @@
 use Prim.Native.Nat.{_+_, _*_, _≤_}
-use Rattle.saved_writer.proofs.WholeFile.{filled, room, too-short}
+use Rattle.saved_writer.proofs.WholeFile.{filled, reads-back, room, too-short}
 use Rattle.saved_writer.proofs.writer.write_file.Needs as need
 use lib.ListN.{length}
 use mathlib.Core.Path.{_∙_}
@@ -10,7 +10,7 @@ returns-then-out-length g c =
     let w =
     too-short (g .K·Kind .number) (g .R·Reading .meaning (c .args .book .now)) (c .from .result) (c .args .out .now)
     (c .from .ensures ∙ c .standing-grades-count .ensures) (c .if-out-length .taken) in
-    record { answer = w .0; after = w .1; codes = tt }
+    record { answer = w .0; after = w .1; read-back = tt }
 
 pub returns : need.returns
 returns g c =
@@ -24,5 +24,5 @@ returns g c =
           (c .packages .result) (c .translators .result) (c .standing-grades-count .result) (c .write-head .last .out)
           (c .write-rows .last .out) e h (c .kind-number .ensures) (c .packages .ensures) (c .translators .ensures)
           (c .standing-grades-count .ensures) (c .write-head .ensures) (c .write-rows .ensures .after);
-      codes = c .write-rows .ensures .codes;
+      read-back = reads-back (g .K·Kind .number) (g .K·Kind .valid) m (g .R·Reading·met .sound (c .args .book .now)) (c .write-rows .ensures .codes);
     }

@@ -1,7 +1,7 @@
 use Prim.Native.Nat.{_+_, _*_, _≤_}
 use Rattle.books.specs.Meaning.{in-row}
 use Rattle.file_format.specs.FileOf.{row-bytes}
-use Rattle.saved_writer.proofs.Places.{row-fits-more}
+use Rattle.saved_writer.proofs.Places.{row-fits-more, row-fits-none}
 use Rattle.saved_writer.proofs.Rows.{row-after, row-end, row-room, row-start}
 use Rattle.saved_writer.proofs.writer.write_row.Needs as need
 use Rattle.saved_writer.specs.Written.{Row-fits, put-at}
@@ -14,7 +14,7 @@ loop-translator-holds g c =
     let w =
     row-start (c .args .pkg) (g .R·Reading .meaning (c .args .book .now) .grade (c .args .pkg)) (c .args .out .now)
     (c .args .at) in
-    (w .0, w .1, λ j l m. absurd (omega arith))
+    (w .0, w .1, row-fits-none (g .R·Reading .meaning (c .args .book .now) .grade (c .args .pkg)))
 
 pub write-pair-end-requires : need.write-pair-end-requires
 write-pair-end-requires g c κs =

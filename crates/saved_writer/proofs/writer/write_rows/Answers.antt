@@ -1,6 +1,6 @@
 use Prim.Native.Nat.{_+_, _≤_}
 use Rattle.file_format.specs.FileOf.{grades-bytes}
-use Rattle.saved_writer.proofs.Places.{codes-fit-more}
+use Rattle.saved_writer.proofs.Places.{codes-fit-more, codes-fit-none}
 use Rattle.saved_writer.proofs.Rows.{rows-after, rows-end, rows-room, rows-start}
 use Rattle.saved_writer.proofs.writer.write_rows.Needs as need
 use Rattle.saved_writer.specs.Written.{Codes-fit, put-at}
@@ -12,7 +12,7 @@ pub loop-pkg-holds : need.loop-pkg-holds
 loop-pkg-holds g c =
     let m = g .R·Reading .meaning (c .args .book .now) in
     let w = rows-start (m .grade) (c .args .out .now) (m .packages) (m .translators) (c .pre) in
-    (w .0, w .1, λ i l k. absurd (omega arith))
+    (w .0, w .1, codes-fit-none (m .grade) (m .translators))
 
 pub write-row-at-requires : need.write-row-at-requires
 write-row-at-requires g c κs =
