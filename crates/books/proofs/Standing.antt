@@ -1,11 +1,12 @@
 -- Counting the grades that stand: one step of a loop, one changed pair, none, and at most how many.
 use Prim.Native.Nat.{ℕ, zero, suc, _+_, _*_, _≤_, _<_}
+use Rattle.books.proofs.Inside.{lies}
 use Rattle.books.specs.Limits.{inside}
 use Rattle.books.specs.Meaning.{one, in-row, standing, changed, Meaning, Sound, Empty, count}
-use Rattle.std.proofs.shelf.Tests.{cases-eq, cases-bool, and-parts, leb-true, le-leb, eq-eqb, eqb-true, cond-false}
+use Rattle.std.proofs.shelf.Tests.{cases-eq, cases-bool, and-parts, eq-eqb, eqb-true, cond-false}
 use Rattle.std.specs.declared.option.Option.{Option}
 use Rattle.std.specs.declared.option.Option.the-variants.{Some, None}
-use lib.Dec.{leb, eqb}
+use lib.Dec.{eqb}
 use mathlib.Core.Bool.{true, false, _&&_}
 use mathlib.Core.Logic.{_⊎_, inl, inr, ⊎-elim}
 use mathlib.Core.Path.{_≡_, refl, sym, ap, _∙_}
@@ -180,11 +181,8 @@ empty-from-count m s z i j =
   where
     within : inside (m .packages) (m .translators) i j ≡ true → m .grade i j ≡ None
     within e =
-        let w = and-parts (leb 1 i && leb i (m .packages) && leb 1 j) (leb j (m .translators)) e in
-        let v = and-parts (leb 1 i && leb i (m .packages)) (leb 1 j) (w .0) in
-        let u = and-parts (leb 1 i) (leb i (m .packages)) (v .0) in
-        standing-zero (m .grade) (m .packages) (m .translators) z i j
-        (leb-true 1 i (u .0)) (leb-true i (m .packages) (u .1)) (leb-true 1 j (v .1)) (leb-true j (m .translators) (w .1))
+        let w = lies (m .packages) (m .translators) i j e in
+        standing-zero (m .grade) (m .packages) (m .translators) z i j (w .row) (w .row-most) (w .column) (w .column-most)
 
 pub count-from-empty : (m : Meaning) → Empty m → count m ≡ 0
 count-from-empty m h = standing-empty (m .grade) (m .packages) (m .translators) h

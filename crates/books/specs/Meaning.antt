@@ -21,6 +21,12 @@ pub record Sound (m : Meaning) : Type 0 where
 abbrev pub Empty : Meaning → Type 0
 Empty m = (i j : ℕ) → m .grade i j ≡ None
 
+-- a book as it is made: these sizes, and no grade
+pub record Blank (p t : ℕ) (m : Meaning) : Type 0 where
+  pub packages : m .packages ≡ p
+  pub translators : m .translators ≡ t
+  pub empty : Empty m
+
 -- the same grades but for one pair
 abbrev pub changed : (ℕ → ℕ → Option ℕ) → ℕ → ℕ → Option ℕ → ℕ → ℕ → Option ℕ
 changed f a b v i j = cond (eqb i a && eqb j b) v (f i j)

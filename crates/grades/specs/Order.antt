@@ -1,5 +1,5 @@
 -- What every kind of grade keeps: code 0 is no grade, and the valid codes stand in a strict order.
-use Prim.Native.Nat.{ℕ}
+use Prim.Native.Nat.{ℕ, _^_, _<_}
 use lib.Dec.{eqb}
 use mathlib.Core.Bool.{Bool, true, false, not, _&&_, cond}
 use mathlib.Core.Path.{_≡_}
@@ -9,6 +9,8 @@ exactly-one a b c = cond a (not b && not c) (cond b (not c) c)
 
 pub record Order (valid : ℕ → Bool) (above : ℕ → ℕ → Bool) : Type 0 where
   pub no-zero : valid 0 ≡ false
+  -- codes have 32 bits
+  pub fits : (a : ℕ) → valid a ≡ true → a < 2 ^ 32
   -- of two valid codes the first is above, the second is above, or they are the same code
   pub one-way :
       (a b : ℕ) → valid a ≡ true → valid b ≡ true → exactly-one (above a b) (above b a) (eqb a b) ≡ true

@@ -1,0 +1,4 @@
+pub mod Entries
+pub mod Meant
+pub mod Order
+pub mod Table

@@ -1,0 +1,5 @@
+// Worked examples, run through the public calls.
+#[cfg(test)]
+mod books;
+#[cfg(test)]
+mod grades;
