@@ -22,7 +22,7 @@ pub fn augment<P: Pattern>(
 {
     for j in 0..pattern.translator_count() {
         let place = j as usize;
-        if !visited[place] && pattern.may_join(pkg, j + 1) {
+        if !visited[place] && pattern.may_join(pkg, place as u8 + 1) {
             visited[place] = true;
             let holder = owner[place];
             owner[place] = pkg;
