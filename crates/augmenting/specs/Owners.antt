@@ -2,7 +2,7 @@
 -- j + 1 has, and 0 where it has none. A pattern C says of the numbers of a package and a translator
 -- whether the two may be matched.
 use Prim.Native.Nat.{ℕ, _+_, _<_}
-use lib.ListN.{length, getD}
+use lib.ListN.{getD}
 use mathlib.Core.Bool.{Bool, true, false}
 use mathlib.Core.List.{List}
 use mathlib.Core.Logic.{_⊎_}

@@ -5,7 +5,7 @@ use Rattle.augmenting.proofs.paths.+augment.Needs.{then-not-visited-place·the
 use Rattle.std.proofs.shelf.Tests.{true≢false, both-ways}
 use borrow.Author.Needs.{needs}
 use lib.ListN.{length, getD}
-use mathlib.Core.Path.{_≡_, sym, ap, _∙_}
+use mathlib.Core.Path.{sym, ap, _∙_}
 use native.Mathlib.Omega.{arith}
 
 pub returns-then-holder-eq0 : need.returns-then-holder-eq0

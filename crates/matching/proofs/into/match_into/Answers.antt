@@ -10,7 +10,7 @@ use Rattle.matching.specs.Written.{numbers-of}
 use lib.ListN.{getD, length}
 use mathlib.Core.Bool.{cond}
 use mathlib.Core.List.{List}
-use mathlib.Core.Path.{_≡_, refl, sym, subst, _∙_}
+use mathlib.Core.Path.{_≡_, refl, sym, subst}
 use native.Mathlib.Omega.{arith}
 
 pub returns-in-Continue-write-into : need.returns-in-Continue-write-into
