@@ -39,9 +39,10 @@ Room p plan set = (p ≤ length plan) × (p ≤ length set)
 
 -- In buffers for a plan and a set: both too short or one of them is refused, and both stay as they
 -- were. Places beyond the packages never change, nor does the plan buffer where there is no plan.
-pub record Plan-written (above : ℕ → ℕ → Bool) (G : ℕ → ℕ → Option ℕ) (p t : ℕ) (plan set plan′ set′ : List ℕ) (lowest : ℕ) : Type 0 where
+pub record Plan-written (above : ℕ → ℕ → Bool) (G : ℕ → ℕ → Option ℕ) (p t : ℕ) (plan set plan′ set′ best : List ℕ) (lowest : ℕ) : Type 0 where
   pub room : Room p plan set
-  pub best : BestPlan above G p t (take p plan′) lowest
+  pub value : take p plan′ ≡ best
+  pub planned : BestPlan above G p t best lowest
   pub rest : drop p plan′ ≡ drop p plan
   pub tight : TightSet above G p t lowest (member set′)
   pub marks : Marks p set set′
@@ -61,6 +62,6 @@ pub record No-room (p : ℕ) (plan set plan′ set′ : List ℕ) (refusal : Ref
 
 abbrev pub Answered :
     (ℕ → ℕ → Bool) → (ℕ → ℕ → Option ℕ) → ℕ → ℕ → List ℕ → List ℕ → List ℕ → List ℕ → Result Answer Refusal → Type 0
-Answered above G p t plan set plan′ set′ (Ok (answer.Planned lowest)) = Plan-written above G p t plan set plan′ set′ lowest
+Answered above G p t plan set plan′ set′ (Ok (answer.Planned best lowest)) = Plan-written above G p t plan set plan′ set′ (numbers-of best) lowest
 Answered above G p t plan set plan′ set′ (Ok answer.Short) = Short-written G p t plan set plan′ set′
 Answered above G p t plan set plan′ set′ (Err refusal) = No-room p plan set plan′ set′ refusal

@@ -7,6 +7,7 @@ ghost use lib.ListN.{getD, length};
 ghost use mathlib.Core.Bool.{cond};
 ghost use mathlib.Core.Path.{_≡_};
 use super::Matched;
+use super::Plan;
 use super::best_plan;
 use augmenting::Members;
 use books::Reading;
@@ -15,7 +16,7 @@ use refusals::Refusal;
 
 #[derive(Clone, Copy)]
 pub enum Answer {
-    Planned { lowest: u32 },
+    Planned { plan: Plan, lowest: u32 },
     Short,
 }
 
@@ -52,7 +53,7 @@ pub fn match_into<R: Reading, K: Kind>(
         } => {
             best.write_into(plan)?;
             write_members(&tight, packages, set);
-            Ok(Answer::Planned { lowest })
+            Ok(Answer::Planned { plan: best, lowest })
         }
         Matched::Short { short } => {
             write_members(&short, packages, set);

@@ -33,7 +33,10 @@ fn has_plan<K: Kind>(book: &TableBook, lowest: u32, numbers: &[u16]) -> Result<(
     let mut plan = [77; 4];
     let mut set = [9; 4];
     match match_into::<TableBook, K>(book, &mut plan, &mut set)? {
-        Answer::Planned { lowest: told } => check_eq(told, lowest)?,
+        Answer::Planned {
+            plan: _,
+            lowest: told,
+        } => check_eq(told, lowest)?,
         Answer::Short => return Err(Fail::new("short")),
     }
     check(numbers.len() < 4)?;
@@ -49,7 +52,7 @@ fn has_no_plan<K: Kind>(book: &TableBook) -> Result<(), Fail> {
     let mut plan = [77; 4];
     let mut set = [9; 4];
     match match_into::<TableBook, K>(book, &mut plan, &mut set)? {
-        Answer::Planned { lowest: _ } => return Err(Fail::new("a plan")),
+        Answer::Planned { plan: _, lowest: _ } => return Err(Fail::new("a plan")),
         Answer::Short => check_eq(plan[0], 77).note("the plan buffer is untouched")?,
     }
     check(is_one_fewer::<TableBook, K>(book, &set, None)).note("a short set")

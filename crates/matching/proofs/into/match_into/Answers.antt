@@ -5,12 +5,10 @@ use Rattle.bottleneck.specs.Grades.{graded, graded-above, valid-grades}
 use Rattle.matching.proofs.Buffers.{front-written, marks-written, members-written, rest-written}
 use Rattle.matching.proofs.into.match_into.Needs as need
 use Rattle.matching.specs.Answers.{member}
-use Rattle.matching.specs.Plans.{BestPlan}
 use Rattle.matching.specs.Written.{numbers-of}
 use lib.ListN.{getD, length}
 use mathlib.Core.Bool.{cond}
-use mathlib.Core.List.{List}
-use mathlib.Core.Path.{_≡_, refl, sym, subst}
+use mathlib.Core.Path.{_≡_, refl}
 use native.Mathlib.Omega.{arith}
 
 pub returns-in-Continue-write-into : need.returns-in-Continue-write-into
@@ -35,7 +33,8 @@ returns-in-Continue-write-into g c =
     let first : (k : ℕ) → k < p → getD set′ k 0 ≡ cond (seen s k) 1 0 = λ k l. c .write-members .ensures .first k (omega (arith, l, e)) in
     record {
       room = (a, b);
-      best = subst (λ (x : List ℕ). BestPlan above G p t x lowest) (sym (front-written xs plan plan′ p long a (c .write-into .ensures .after))) (right .0);
+      value = front-written xs plan plan′ p long a (c .write-into .ensures .after);
+      planned = right .0;
       rest = rest-written xs plan plan′ p long a (c .write-into .ensures .after);
       tight = same-members (graded-above above G lowest) p t (seen s) (member set′) (members-written s p set′ first) (right .1);
       marks = marks-written s p set set′ (c .write-members .kept .out) first (λ k l. c .write-members .ensures .rest k (omega (arith, l, e)));

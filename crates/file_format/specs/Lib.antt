@@ -1,0 +1,4 @@
+pub mod FileOf
+pub mod Laws
+pub mod Layout
+pub mod Rules

@@ -1,0 +1,12 @@
+pub mod Back
+pub mod Calls
+pub mod Clear
+pub mod Clears
+pub mod Determined
+pub mod Kept
+pub mod Numbers
+pub mod Off
+pub mod Runs
+pub mod Skips
+pub mod Slips
+pub mod Told

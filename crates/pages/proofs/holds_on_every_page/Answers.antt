@@ -1,0 +1,22 @@
+use Rattle.pages.proofs.Back.{saved-grades-come-back, loaded-files-are-saved-ones}
+use Rattle.pages.proofs.Kept.{standing-grades-are-of-the-kind}
+use Rattle.pages.proofs.Off.{refused-lines-come-off}
+use Rattle.pages.proofs.Slips.{every-slip-is-counted}
+use Rattle.pages.proofs.Told.{refused-for-the-first-reason, drawn-lines-have-the-best-plan, short-lines-have-no-plan, drawn-where-there-is-a-plan, shown-plans-are-the-published-ones, same-grades-same-plan}
+use Rattle.pages.proofs.holds_on_every_page.Needs as need
+
+pub returns : need.returns
+returns c =
+    record {
+      refused = refused-for-the-first-reason;
+      drawn = drawn-lines-have-the-best-plan;
+      short = short-lines-have-no-plan;
+      drawn-or-short = drawn-where-there-is-a-plan;
+      shown = shown-plans-are-the-published-ones;
+      counted = every-slip-is-counted;
+      come-off = refused-lines-come-off;
+      of-the-kind = standing-grades-are-of-the-kind;
+      come-back = saved-grades-come-back;
+      loaded = loaded-files-are-saved-ones;
+      same-plan = same-grades-same-plan;
+    }
