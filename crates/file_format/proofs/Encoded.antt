@@ -5,7 +5,8 @@ use Rattle.books.specs.Limits.{Within, inside}
 use Rattle.books.specs.Meaning.{one, in-row, changed, standing}
 use Rattle.file_format.proofs.Bytes.{four-again, two-again}
 use Rattle.file_format.proofs.Decoded.{Good}
-use Rattle.file_format.proofs.Orders.{Before, before-true, true-before, before-chain, before-apart, not-before, Inside, inside-parts, inside-from}
+use Rattle.books.proofs.Inside.{Lies, lies}
+use Rattle.file_format.proofs.Orders.{Before, before-true, true-before, before-chain, before-apart, not-before, inside-from}
 use Rattle.file_format.specs.FileOf.{grade-bytes, of-grade, row-bytes, grades-bytes, grades-upto, grade-in, head-bytes, file-of, Graded}
 use Rattle.file_format.specs.Layout.{after, last-of, record-in, six-bytes, start-of, whole, count-in, sheet-in, two-bytes, before}
 use Rattle.file_format.specs.Rules.{Expected, just, Right, Right-part, Records-right, first-count, sheet-record, second-count, grade-record, the-end}
@@ -219,7 +220,7 @@ turn valid p t G bs n x L =
       long = L .long;
       good = L .good;
       last = λ l. up (record-in bs n .pkg) (record-in bs n .translator) (L .last l);
-      listed = λ i j h w. L .listed i j (down i j h (inside-parts p t i j w)) w;
+      listed = λ i j h w. L .listed i j (down i j h (lies p t i j w)) w;
       unlisted = λ i j h. L .unlisted i j (λ q. h (up i j q));
       outside = L .outside;
     }
@@ -228,10 +229,10 @@ turn valid p t G bs n x L =
     up i j (inl a) = inl (omega arith)
     up i j (inr a) = inl (omega (arith, a .0))
 
-    down : (i j : ℕ) → Before i j (suc x) 1 → Inside p t i j → Before i j x (suc t)
+    down : (i j : ℕ) → Before i j (suc x) 1 → Lies p t i j → Before i j x (suc t)
     down i j (inl a) w =
-        ⊎-elim (λ e. inr (e, omega (arith, w .high-translator))) (λ e. inl (omega (arith, e))) (cases-eq i x)
-    down i j (inr a) w = absurd (omega (arith, a .1, w .low-translator))
+        ⊎-elim (λ e. inr (e, omega (arith, w .column-most))) (λ e. inl (omega (arith, e))) (cases-eq i x)
+    down i j (inr a) w = absurd (omega (arith, a .1, w .column))
 
 module _ (valid : ℕ → Bool) (p t : ℕ) (G : ℕ → ℕ → Option ℕ) (A : Graded valid p t G) where
   one-pair :
@@ -258,7 +259,7 @@ module _ (valid : ℕ → Bool) (p t : ℕ) (G : ℕ → ℕ → Option ℕ) (A 
   one-row bs n x l m L (suc u) h =
       let w : inside p t x (suc u) ≡ true =
       inside-from p t x (suc u)
-      (record { low-pkg = l; high-pkg = m; low-translator = omega arith; high-translator = h }) in
+      (record { row = l; row-most = m; column = omega arith; column-most = h }) in
       subst (λ k. Listed valid p t G (bs ++ (row-bytes x (G x) u ++ of-grade x (suc u) (G x (suc u)))) k x (suc (suc u)))
       (omega arith)
       (subst (λ ys. Listed valid p t G ys (n + in-row (G x) u + one (G x (suc u))) x (suc (suc u)))
@@ -286,14 +287,14 @@ module _ (valid : ℕ → Bool) (p t : ℕ) (G : ℕ → ℕ → Option ℕ) (A 
         long = h;
         good = λ r a b. absurd (omega arith);
         last = λ l. absurd (omega arith);
-        listed = λ i j b w. absurd (none i j b (inside-parts p t i j w));
+        listed = λ i j b w. absurd (none i j b (lies p t i j w));
         unlisted = λ i j b. refl;
         outside = λ i j b. refl;
       }
     where
-      none : (i j : ℕ) → Before i j 1 1 → Inside p t i j → ⊥
-      none i j (inl a) w = omega (arith, w .low-pkg)
-      none i j (inr a) w = omega (arith, a .1, w .low-translator)
+      none : (i j : ℕ) → Before i j 1 1 → Lies p t i j → ⊥
+      none i j (inl a) w = omega (arith, w .row)
+      none i j (inr a) w = omega (arith, a .1, w .column)
 
   few : standing G p t ≤ 3072
   few =
@@ -313,7 +314,7 @@ module _ (valid : ℕ → Bool) (p t : ℕ) (G : ℕ → ℕ → Option ℕ) (A 
       ∙ ⊎-elim within beyond (cases-bool (inside p t i j))
     where
       within : inside p t i j ≡ true → grades-upto (file-of number p t G) (standing G p t) i j ≡ G i j
-      within e = whole-file number .listed i j (inl (omega (arith, inside-parts p t i j e .high-pkg))) e
+      within e = whole-file number .listed i j (inl (omega (arith, lies p t i j e .row-most))) e
 
       beyond : inside p t i j ≡ false → grades-upto (file-of number p t G) (standing G p t) i j ≡ G i j
       beyond e = whole-file number .outside i j e ∙ sym (A .outside i j e)
