@@ -1,0 +1,29 @@
+// Reads a saved file from standard input and prints its kind, its sizes and its grades, or what is
+// wrong with it and where.
+mod report;
+
+use grades::Points;
+use grades::PointsKind;
+use grades::Ratings;
+use grades::RatingsKind;
+use report::print_fault;
+use report::print_file;
+use saved_file::KindName;
+use saved_file::read_head;
+use std::io;
+use std::io::Read;
+
+// The longest file, and one byte more: nothing after it can change what is told.
+const ENOUGH_BYTES: u64 = 18_440;
+
+fn main(rt: LibcRuntime) -> io::Result<()> {
+    let mut file = Vec::new(rt.alloc());
+    rt.stdin().take(ENOUGH_BYTES).read_to_end(&mut file)?;
+    match read_head(&file) {
+        Ok(head) => match head.kind {
+            KindName::OfPoints => print_file::<Points>(&rt, "points", &file, head.sizes),
+            KindName::OfRatings => print_file::<Ratings>(&rt, "ratings", &file, head.sizes),
+        },
+        Err(fault) => print_fault(&rt, fault),
+    }
+}
