@@ -2,14 +2,9 @@
 // wrong with it and where.
 mod report;
 
-use grades::Points;
-use grades::PointsKind;
-use grades::Ratings;
-use grades::RatingsKind;
 use report::print_fault;
 use report::print_file;
-use saved_file::KindName;
-use saved_file::read_head;
+use saved_file::check_by_itself;
 use std::io;
 use std::io::Read;
 
@@ -19,11 +14,8 @@ const ENOUGH_BYTES: u64 = 18_440;
 fn main(rt: LibcRuntime) -> io::Result<()> {
     let mut file = Vec::new(rt.alloc());
     rt.stdin().take(ENOUGH_BYTES).read_to_end(&mut file)?;
-    match read_head(&file) {
-        Ok(head) => match head.kind {
-            KindName::OfPoints => print_file::<Points>(&rt, "points", &file, head.sizes),
-            KindName::OfRatings => print_file::<Ratings>(&rt, "ratings", &file, head.sizes),
-        },
+    match check_by_itself(&file) {
+        Ok(checked) => print_file(&rt, &checked),
         Err(fault) => print_fault(&rt, fault),
     }
 }

@@ -1,11 +1,12 @@
 // The text that is printed.
-use books::Sizes;
+use file_format::SheetRecord;
 use grades::Kind;
+use grades::Points;
+use grades::PointsKind;
 use refusals::Cause;
 use refusals::Fault;
 use refusals::Layer;
 use saved_file::CheckedFile;
-use saved_file::check_file;
 use std::io;
 
 fn in_words(cause: Cause) -> &'static str {
@@ -18,6 +19,15 @@ fn in_words(cause: Cause) -> &'static str {
         Cause::Code => "the code is not valid in the kind",
         Cause::NotAfter => "the record does not come after the one before",
         Cause::LeftOver => "bytes are left over",
+    }
+}
+
+// A checked file is of one of these.
+fn kind_name(number: u8) -> &'static str {
+    if number == Points::kind_number() {
+        "points"
+    } else {
+        "ratings"
     }
 }
 
@@ -48,19 +58,20 @@ pub fn print_fault(rt: &LibcRuntime, fault: Fault) -> io::Result<()> {
 }
 
 // A line for the kind and the sizes, and one for each grade.
-fn print_table(
-    rt: &LibcRuntime,
-    kind: &str,
-    sizes: Sizes,
-    file: &CheckedFile<'_>,
-) -> io::Result<()> {
-    let packages = sizes.packages();
-    let translators = sizes.translators();
+pub fn print_file(rt: &LibcRuntime, file: &CheckedFile<'_>) -> io::Result<()> {
     let count = file.count();
-    println!(
-        rt,
-        "{kind}, packages {packages}, translators {translators}, grades {count}"
-    )?;
+    if let Some(sheet) = file.sheet_record() {
+        let kind = kind_name(sheet.kind);
+        let SheetRecord {
+            packages,
+            translators,
+            ..
+        } = sheet;
+        println!(
+            rt,
+            "{kind}, packages {packages}, translators {translators}, grades {count}"
+        )?;
+    }
     println!(rt, "package  translator       grade")?;
     for done in 0..count {
         if let Some(found) = file.record(done.wrapping_add(1)) {
@@ -72,17 +83,4 @@ fn print_table(
         }
     }
     Ok(())
-}
-
-// The grades of a file of this kind and these sizes, or its fault.
-pub fn print_file<K: Kind>(
-    rt: &LibcRuntime,
-    kind: &str,
-    file: &[u8],
-    sizes: Sizes,
-) -> io::Result<()> {
-    match check_file::<K>(file, sizes) {
-        Ok(checked) => print_table(rt, kind, sizes, &checked),
-        Err(fault) => print_fault(rt, fault),
-    }
 }
