@@ -8,20 +8,20 @@ use Rattle.books.proofs.Inside.{Lies, lies}
 use Rattle.file_format.proofs.Orders.{Before, before-true, before-chain, before-apart, not-before}
 use Rattle.file_format.proofs.Pushed.{grades-push, grades-none}
 use Rattle.file_format.specs.FileOf.{grade-bytes, grades-bytes, grades-upto, grade-in, head-bytes, file-of, Graded}
-use Rattle.file_format.specs.Layout.{after, last-of, record-in, six-bytes, start-of, whole, count-in, sheet-in, two-bytes, before}
+use Rattle.file_format.specs.Layout.{after, last-of, record-in, start-of, whole, count-in, sheet-in, two-bytes, before}
 use Rattle.file_format.specs.Laws.{Bytes}
-use Rattle.file_format.specs.Rules.{Expected, just, Right, Right-part, Records-right, first-count, sheet-record, second-count, grade-record, the-end}
+use Rattle.file_format.specs.Rules.{just, Right, Right-part, Records-right, first-count, sheet-record, second-count, grade-record, the-end}
 use Rattle.refusals.specs.declared.fault.Cause.{Cause}
 use Rattle.std.proofs.shelf.Lists.{getD-drop, drop-drop, length-drop, take-append-drop, take-all}
-use Rattle.std.proofs.shelf.Tests.{and-parts, leb-true, eqb-true, cases-eq, cases-bool, cond-false, cond-true, ne-eqb, true≢false}
+use Rattle.std.proofs.shelf.Tests.{and-parts, leb-true, eqb-true, cases-bool, cond-false, cond-true, ne-eqb, true≢false}
 use Rattle.std.specs.declared.option.Option.{Option}
 use Rattle.std.specs.declared.option.Option.the-variants.{Some, None}
 use lib.Dec.{leb, eqb}
 use lib.ListN.{length, getD, take, drop}
 use lib.Seq.{take-add}
 use mathlib.Core.Bool.{Bool, true, false, _&&_, cond}
-use mathlib.Core.List.{List, [], _++_}
-use mathlib.Core.Logic.{_⊎_, inl, inr, ⊎-elim}
+use mathlib.Core.List.{List, _++_}
+use mathlib.Core.Logic.{_⊎_, ⊎-elim}
 use mathlib.Core.Path.{_≡_, refl, sym, ap, subst, _∙_}
 use native.Mathlib.Omega.{arith}
 

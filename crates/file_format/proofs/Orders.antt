@@ -1,9 +1,9 @@
 -- The order of pairs, by package and then by translator, and pairs inside the sizes.
-use Prim.Native.Nat.{ℕ, _<_, _≤_}
+use Prim.Native.Nat.{ℕ, _<_}
 use Rattle.books.proofs.Inside.{Lies}
 use Rattle.books.specs.Limits.{inside}
 use Rattle.file_format.specs.Layout.{before}
-use Rattle.std.proofs.shelf.Tests.{and-parts, and-from, cases-order, leb-true, le-leb, ltb-true, eqb-true, lt-ltb, eq-eqb, or-cases, or-left, or-right}
+use Rattle.std.proofs.shelf.Tests.{and-parts, and-from, cases-order, le-leb, ltb-true, eqb-true, lt-ltb, eq-eqb, or-cases, or-left, or-right}
 use lib.Dec.{leb, ltb, eqb}
 use mathlib.Core.Bool.{true, _&&_}
 use mathlib.Core.Logic.{_⊎_, inl, inr, ⊎-elim}

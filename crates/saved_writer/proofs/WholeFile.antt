@@ -5,7 +5,6 @@ use Rattle.books.specs.Meaning.{Meaning, Sound, count}
 use Rattle.books.proofs.Inside.{lies}
 use Rattle.file_format.proofs.RoundTrip.{file-is-right}
 use Rattle.file_format.specs.FileOf.{head-bytes, grades-bytes}
-use Rattle.refusals.specs.declared.refusal.Refusal.{Refusal}
 use Rattle.refusals.specs.declared.refusal.Refusal.the-variants.{Space}
 use Rattle.saved_writer.proofs.Lengths.{length-grades}
 use Rattle.saved_writer.proofs.Places.{put-first, put-put}
@@ -13,7 +12,6 @@ use Rattle.saved_writer.specs.Written.{Codes-fit, Reads-back, file-of-meaning,
 use Rattle.std.proofs.shelf.Lists.{length-append}
 use Rattle.std.proofs.shelf.Tests.{cases-bool, cond-false, cond-true, le-leb, lt-leb}
 use Rattle.std.specs.declared.option.Option.the-variants.{Some}
-use Rattle.std.specs.declared.result.Result.{Result}
 use Rattle.std.specs.declared.result.Result.the-variants.{Ok, Err}
 use lib.Dec.{leb}
 use lib.ListN.{length, drop}
