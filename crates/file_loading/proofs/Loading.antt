@@ -4,7 +4,7 @@ use Rattle.books.proofs.Outcomes.{put-accepted, put-makes}
 use Rattle.books.specs.Changes.{put-after, put-answer}
 use Rattle.books.specs.Meaning.{Empty, Meaning, count}
 use Rattle.file_format.proofs.Decoded.{good-record, upto-all}
-use Rattle.file_format.specs.FileOf.{grade-in, grades-upto}
+use Rattle.file_format.specs.FileOf.{grades-upto}
 use Rattle.file_format.specs.Laws.{Bytes}
 use Rattle.file_format.specs.Layout.{count-in, record-in, start-of, whole}
 use Rattle.file_format.specs.Rules.{Right, grade-record, just}
