@@ -1,8 +1,8 @@
 -- Arrays that start out all alike.
-use Prim.Native.Nat.{ℕ, _<_, _≤_}
+use Prim.Native.Nat.{ℕ}
 use Rattle.std.proofs.shelf.Lists.{getD-replicate, getD-past, length-replicate}
 use Rattle.std.proofs.shelf.Tests.{cases-lt}
-use lib.ListN.{length, getD, replicate}
+use lib.ListN.{getD, replicate}
 use mathlib.Core.Logic.{⊎-elim}
 use mathlib.Core.Path.{_≡_}
 use native.Mathlib.Omega.{arith}

@@ -1,9 +1,9 @@
 -- Counting: one place left out, two tests compared, and the pigeonhole.
 use Prim.Native.Nat.{ℕ, zero, suc, _+_, _≤_, _<_}
 use Rattle.augmenting.specs.Counting.{count, any}
-use Rattle.std.proofs.shelf.Tests.{cases-eq, both-ways, cases-bool, cases-lt, eq-eqb, ne-eqb, or-cases, or-left, or-right, or-from}
+use Rattle.std.proofs.shelf.Tests.{cases-eq, both-ways, cases-bool, eq-eqb, ne-eqb, or-cases, or-left, or-right}
 use lib.Dec.{eqb}
-use mathlib.Core.Bool.{Bool, true, false, not, _||_, cond}
+use mathlib.Core.Bool.{Bool, true, false, _||_, cond}
 use mathlib.Core.Logic.{_⊎_, inl, inr, ⊎-elim}
 use mathlib.Core.Path.{_≡_, refl, sym, ap, subst, _∙_}
 use native.Mathlib.Omega.{arith}
@@ -79,18 +79,6 @@ count-lt f g n j l e d h =
     (λ r. without-other g j k r ∙ h k m q)
     (cases-eq k j)) in
     omega (arith, a, b)
-
--- places past the first t that pass no test add nothing
-pub count-past :
-    (f : ℕ → Bool) (t d : ℕ) → ((k : ℕ) → t ≤ k → f k ≡ false) → count f (d + t) ≡ count f t
-unfolding count
-count-past f t zero h = ap (count f) (omega arith)
-count-past f t (suc d) h =
-    let q : suc d + t ≡ suc (d + t) = omega arith in
-    let a : bit (f (d + t)) ≡ 0 = ap bit (h (d + t) (omega arith)) in
-    let b : count f (d + t) ≡ count f t = count-past f t d h in
-    let s : count f (suc (d + t)) ≡ bit (f (d + t)) + count f (d + t) = refl in
-    ap (count f) q ∙ omega (arith, a, b, s)
 
 -- Members of S among the first p, each with a place of its own among those that N passes: so N
 -- passes at least as many.

@@ -3,16 +3,15 @@
 use Prim.Native.Nat.{ℕ, _+_, _-_, _≤_, _<_}
 use Rattle.augmenting.proofs.Counts.{any-from, any-same, from-any, count-same, count-without, pigeon, without, without-other, without-same}
 use Rattle.augmenting.specs.Assigned.{Assigns}
-use Rattle.augmenting.specs.Counting.{count, any}
+use Rattle.augmenting.specs.Counting.{count}
 use Rattle.augmenting.specs.Owners.{Closed, Free, Matching, Tried, seen}
 use Rattle.augmenting.specs.Sets.{OneFewer, Owners-and, reached}
-use Rattle.std.proofs.shelf.Tests.{and-from, and-parts, cases-bool, cases-eq, eqb-true, both-ways}
-use lib.Dec.{eqb}
+use Rattle.std.proofs.shelf.Tests.{and-from, and-parts, cases-eq, both-ways}
 use lib.ListN.{getD, length}
-use mathlib.Core.Bool.{Bool, true, false, not, _&&_}
+use mathlib.Core.Bool.{Bool, true, false, _&&_}
 use mathlib.Core.List.{List}
 use mathlib.Core.Logic.{_⊎_, ⊎-elim}
-use mathlib.Core.Path.{_≡_, refl, sym, ap, subst, _∙_}
+use mathlib.Core.Path.{_≡_, refl, sym, ap, _∙_}
 use native.Mathlib.Omega.{arith}
 
 -- What is known where package i is left over: a matching of other packages among the first p, marks

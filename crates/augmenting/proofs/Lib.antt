@@ -4,3 +4,4 @@ pub mod Arrays
 pub mod Blocked
 pub mod Whole
 pub mod Gathered
+pub mod Necessity

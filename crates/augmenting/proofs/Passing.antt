@@ -2,14 +2,14 @@
 use Prim.Native.Nat.{ℕ, _+_, _≤_, _<_}
 use Rattle.augmenting.proofs.Counts.{without, without-same, without-other, count-le, count-same, count-without}
 use Rattle.augmenting.specs.Counting.{count}
-use Rattle.augmenting.specs.Owners.{Matching, Has, Free, seen, Kept, Closed, Tried, Ruled-out, Augmented}
+use Rattle.augmenting.specs.Owners.{Matching, Has, Free, seen, Kept, Closed, Tried, Augmented}
 use Rattle.std.proofs.shelf.Lists.{getD-set-same, getD-set-other, set-set, set-getD}
 use Rattle.std.proofs.shelf.Tests.{cases-eq, cases-bool, both-ways, not-true}
 use lib.ListN.{length, getD, set}
 use mathlib.Core.Bool.{Bool, true, false, not}
 use mathlib.Core.List.{List}
 use mathlib.Core.Logic.{_⊎_, inl, inr, ⊎-elim}
-use mathlib.Core.Path.{_≡_, refl, sym, ap, subst, _∙_}
+use mathlib.Core.Path.{_≡_, sym, ap, subst, _∙_}
 use native.Mathlib.Omega.{arith}
 
 abbrev pub unseen : List Bool → ℕ

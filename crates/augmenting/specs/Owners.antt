@@ -2,7 +2,7 @@
 -- j + 1 has, and 0 where it has none. A pattern C says of the numbers of a package and a translator
 -- whether the two may be matched.
 use Prim.Native.Nat.{ℕ, _+_, _<_}
-use lib.ListN.{length, getD}
+use lib.ListN.{getD}
 use mathlib.Core.Bool.{Bool, true, false}
 use mathlib.Core.List.{List}
 use mathlib.Core.Logic.{_⊎_}
@@ -36,6 +36,14 @@ pub record Closed (C : ℕ → ℕ → Bool) (t : ℕ) (o : List ℕ) (v w : Lis
   pub owned : (j : ℕ) → seen w j ≡ true → seen v j ≡ false → 0 < getD o j 0
   pub reach :
       (j n : ℕ) → seen w j ≡ true → seen v j ≡ false → n < t → C (getD o j 0) (n + 1) ≡ true → seen w n ≡ true
+
+-- Nothing is marked beyond v without need: a set of packages that has package i, and with each
+-- member the owners of all whom it may have and v leaves free, has the owners of all that w marks.
+abbrev pub Needed : (ℕ → ℕ → Bool) → ℕ → ℕ → List ℕ → List Bool → List Bool → Type 0
+Needed C t i o v w =
+    (T : ℕ → Bool) → T i ≡ true
+    → ((k j : ℕ) → T k ≡ true → j < t → C k (j + 1) ≡ true → seen v j ≡ false → 0 < getD o j 0 → T (getD o j 0) ≡ true)
+    → (j : ℕ) → seen w j ≡ true → seen v j ≡ false → T (getD o j 0) ≡ true
 
 -- of the first n translators all whom package k may have are marked
 abbrev pub Tried : (ℕ → ℕ → Bool) → ℕ → List Bool → ℕ → Type 0

@@ -1,5 +1,5 @@
 -- From the table that was read to the grades of the book.
-use Prim.Native.Nat.{ℕ, _+_, _≤_, _<_}
+use Prim.Native.Nat.{ℕ, _≤_, _<_}
 use Rattle.augmenting.specs.Assigned.{Complete, Least}
 use Rattle.augmenting.specs.Owners.{seen}
 use Rattle.augmenting.specs.Sets.{OneFewer}
@@ -10,10 +10,9 @@ use Rattle.bottleneck.specs.Lowered.{Tight-at, at-floor}
 use Rattle.std.proofs.shelf.Tests.{false≢true}
 use Rattle.std.specs.declared.option.Option.{Option}
 use Rattle.std.specs.declared.option.Option.the-variants.{Some, None}
-use lib.ListN.{getD}
 use mathlib.Core.Bool.{Bool}
 use mathlib.Core.List.{List}
-use mathlib.Core.Path.{_≡_, sym, subst, _∙_}
+use mathlib.Core.Path.{_≡_, sym, subst}
 use native.Mathlib.Omega.{arith}
 
 pub found-first :

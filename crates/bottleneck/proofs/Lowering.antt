@@ -2,14 +2,14 @@
 use Prim.Native.Nat.{ℕ, _+_, _*_, _/_, _%_, _≤_, _<_}
 use Rattle.augmenting.proofs.Counts.{count-lt}
 use Rattle.augmenting.proofs.Gathered.{Stuck, member-reaches, one-fewer}
-use Rattle.augmenting.specs.Owners.{Closed, Free, Has, Matching, Tried, seen}
+use Rattle.augmenting.specs.Owners.{seen}
 use Rattle.augmenting.specs.Sets.{OneFewer, Owners-and}
-use Rattle.bottleneck.proofs.Ranks.{asym, compared, from-above, irrefl, lower-floor}
-use Rattle.bottleneck.proofs.Tops.{none-some, some-same}
-use Rattle.bottleneck.specs.Codes.{code-at, grade-of-code, table-grades}
-use Rattle.bottleneck.specs.Floors.{Highest, Valid, Way-out, from-floor, higher}
+use Rattle.bottleneck.proofs.Ranks.{from-above}
+use Rattle.bottleneck.specs.Codes.{grade-of-code, table-grades}
+use Rattle.bottleneck.specs.Floors.{Highest, Valid, Way-out, from-floor}
 use Rattle.bottleneck.specs.Grades.{All-valid, graded, graded-above, passes}
-use Rattle.bottleneck.specs.Lowered.{Left-over, Lowered, Placed-before, Tight-at, at-floor, uncounted}
+use Rattle.bottleneck.specs.Lowered.{Left-over, Lowered, Placed-before, at-floor}
+use Rattle.grades.proofs.Laws.{not-itself, strict}
 use Rattle.grades.specs.Order.{Order}
 use Rattle.std.proofs.shelf.Tests.{and-from, both-ways, cases-bool, cond-true, false≢true, le-leb, not-false, not-true, true≢false}
 use Rattle.std.specs.Options.{isSome}
@@ -19,8 +19,8 @@ use lib.Dec.{leb}
 use lib.ListN.{getD, length}
 use mathlib.Core.Bool.{Bool, true, false, not, _&&_}
 use mathlib.Core.List.{List, []}
-use mathlib.Core.Logic.{_⊎_, inl, inr, ⊎-elim}
-use mathlib.Core.Path.{_≡_, refl, sym, ap, subst, _∙_}
+use mathlib.Core.Logic.{_⊎_, ⊎-elim}
+use mathlib.Core.Path.{_≡_, refl, sym, ap, _∙_}
 use native.Mathlib.Omega.{arith}
 
 -- the cell of a pair
@@ -54,7 +54,7 @@ pub counts-still :
     → (grade : Option ℕ) → Valid valid grade → passes (λ code. above code floor) grade ≡ true
     → from-floor above (Some floor) grade ≡ true
 counts-still valid above o floor v None w c = absurd (false≢true c)
-counts-still valid above o floor v (Some code) w c = ap not (asym valid above o code floor w v c)
+counts-still valid above o floor v (Some code) w c = ap not (strict o code floor w v c)
 
 pub valid-from : (valid : ℕ → Bool) (grade : Option ℕ) → ((code : ℕ) → grade ≡ Some code → valid code ≡ true) → Valid valid grade
 valid-from valid None f = tt
@@ -140,7 +140,7 @@ module _ (valid : ℕ → Bool) (above : ℕ → ℕ → Bool) (order : Order va
             let g : grade-of-code (getD codes (65 * (way .pkg + 1) + (way .translator + 1)) 0) ≡ Some floor = sym (cell codes (way .pkg + 1) (way .translator + 1) (omega (arith, a)) (omega (arith, b))) ∙ way .grade in
             count-lt (λ x. not (from-floor above (Some floor) (grade-of-code (getD codes x 0)))) (λ x. not (from-floor above old (grade-of-code (getD codes x 0)))) 3185
             (65 * (way .pkg + 1) + (way .translator + 1)) (omega (arith, a, b))
-            (ap (λ x. not (from-floor above (Some floor) x)) g ∙ ap (λ x. not (not x)) (irrefl valid above order floor v))
+            (ap (λ x. not (from-floor above (Some floor) x)) g ∙ ap (λ x. not (not x)) (not-itself order floor v))
             (ap (λ x. not (from-floor above old x)) g ∙ ap not e)
             (λ x l c.
             let n : from-floor above (Some floor) (grade-of-code (getD codes x 0)) ≡ false = not-true (from-floor above (Some floor) (grade-of-code (getD codes x 0))) c in

@@ -1,18 +1,15 @@
 -- One package more has a translator, and a lower floor takes none away.
-use Prim.Native.Nat.{ℕ, _+_, _≤_, _<_}
-use Rattle.augmenting.specs.Assigned.{Complete}
-use Rattle.augmenting.specs.Owners.{Augmented, Closed, Free, Has, Matching, Tried, seen}
+use Prim.Native.Nat.{ℕ, _+_}
+use Rattle.augmenting.specs.Owners.{Augmented, Free}
 use Rattle.bottleneck.specs.Codes.{table-grades}
-use Rattle.bottleneck.specs.Floors.{Valid}
-use Rattle.bottleneck.specs.Lowered.{Left-over, Lowered, Placed-before, Tight-at, at-floor}
+use Rattle.bottleneck.specs.Lowered.{Lowered, Placed-before, Tight-at, at-floor}
 use Rattle.std.proofs.shelf.Tests.{cases-eq, cases-lt}
 use Rattle.std.specs.declared.option.Option.{Option}
-use Rattle.std.specs.declared.option.Option.the-variants.{Some, None}
 use lib.ListN.{getD}
-use mathlib.Core.Bool.{Bool, true, false}
-use mathlib.Core.List.{List, []}
+use mathlib.Core.Bool.{Bool, true}
+use mathlib.Core.List.{List}
 use mathlib.Core.Logic.{⊎-elim}
-use mathlib.Core.Path.{_≡_, refl, sym, ap, subst, _∙_}
+use mathlib.Core.Path.{_≡_, refl, sym, subst, _∙_}
 use native.Mathlib.Omega.{arith}
 
 pub left-free : (C : ℕ → ℕ → Bool) (t i : ℕ) (o : List ℕ) → Placed-before C t i o → Free o i

@@ -1,14 +1,14 @@
 -- A table read row by row.
 use Prim.Native.Nat.{ℕ, _+_, _-_, _*_, _≤_, _<_}
+use Rattle.books.proofs.Inside.{lies}
 use Rattle.books.specs.Limits.{inside}
 use Rattle.books.specs.Meaning.{Meaning, Sound}
 use Rattle.bottleneck.specs.Codes.{grade-of-code}
 use Rattle.bottleneck.specs.Grades.{counted, valid-grades}
-use Rattle.std.proofs.shelf.Tests.{and-parts, cases-bool, cases-eq, cases-lt, leb-true}
+use Rattle.std.proofs.shelf.Tests.{cases-bool, cases-eq, cases-lt}
 use Rattle.std.specs.declared.option.Option.the-variants.{None}
-use lib.Dec.{leb}
 use lib.ListN.{getD}
-use mathlib.Core.Bool.{Bool, true, false, _&&_}
+use mathlib.Core.Bool.{Bool, true, false}
 use mathlib.Core.List.{List}
 use mathlib.Core.Logic.{⊎-elim}
 use mathlib.Core.Path.{_≡_, sym, ap, _∙_}
@@ -18,11 +18,7 @@ pub not-inside : (p t k j : ℕ) → ((1 ≤ k) × (k ≤ p) × (1 ≤ j) × (j 
 not-inside p t k j d = ⊎-elim (λ e. absurd (within e)) (λ e. e) (cases-bool (inside p t k j))
   where
     within : inside p t k j ≡ true → ⊥
-    within e =
-        let w = and-parts (leb 1 k && leb k p && leb 1 j) (leb j t) e in
-        let v = and-parts (leb 1 k && leb k p) (leb 1 j) (w .0) in
-        let u = and-parts (leb 1 k) (leb k p) (v .0) in
-        d (leb-true 1 k (u .0), leb-true k p (u .1), leb-true 1 j (v .1), leb-true j t (w .1))
+    within e = let w = lies p t k j e in d (w .row, w .row-most, w .column, w .column-most)
 
 -- outside the sizes no grade counts
 pub none-outside :

@@ -1,20 +1,21 @@
 -- The highest so far, one translator on and one row on.
 use Prim.Native.Nat.{ℕ, _+_, _<_}
 use Rattle.augmenting.specs.Owners.{seen}
-use Rattle.bottleneck.proofs.Ranks.{higher-kept, irrefl}
+use Rattle.bottleneck.proofs.Ranks.{higher-kept}
 use Rattle.bottleneck.specs.Codes.{grade-of-code}
-use Rattle.bottleneck.specs.Floors.{Highest, Highest-in-row, Valid, Way-out, higher}
+use Rattle.bottleneck.specs.Floors.{Highest, Highest-in-row, Way-out, higher}
 use Rattle.bottleneck.specs.Grades.{All-valid}
+use Rattle.grades.proofs.Laws.{not-itself}
 use Rattle.grades.specs.Order.{Order}
-use Rattle.std.proofs.shelf.Tests.{both-ways, cases-bool, cases-eq, cond-false, cond-true, true≢false}
+use Rattle.std.proofs.shelf.Tests.{both-ways, cases-bool, cases-eq, true≢false}
 use Rattle.std.specs.Options.{isSome, valueOr}
 use Rattle.std.specs.declared.option.Option.{Option}
 use Rattle.std.specs.declared.option.Option.the-variants.{Some, None}
 use lib.Dec.{eqb}
 use mathlib.Core.Bool.{Bool, true, false, not, _&&_, cond}
 use mathlib.Core.List.{List}
-use mathlib.Core.Logic.{_⊎_, inl, inr, ⊎-elim}
-use mathlib.Core.Path.{_≡_, refl, sym, ap, subst, _∙_}
+use mathlib.Core.Logic.{_⊎_, inr, ⊎-elim}
+use mathlib.Core.Path.{_≡_, sym, ap, subst, _∙_}
 use native.Mathlib.Omega.{arith}
 
 pub none-some : (c : ℕ) → _≡_ {A = Option ℕ} None (Some c) → ⊥
@@ -59,7 +60,7 @@ row-taken valid above o G all k j w before best code e top h =
           ⊎-elim
           (λ r.
           let same : c ≡ code = some-same c code (sym q ∙ ap (λ x. G k (x + 1)) r ∙ e) in
-          ap (λ x. above x code) same ∙ irrefl valid above o code v)
+          ap (λ x. above x code) same ∙ not-itself o code v)
           (λ d. higher-kept valid above o best (h .right) c code (all k (i + 1) c q) v (h .row i c (omega arith) s q) top)
           (cases-eq i j);
     }

@@ -1,7 +1,6 @@
 -- Grades as a table of codes with 0 for none: 49 rows of 65, of which row 0 and column 0 are empty,
 -- so that a pair stands at its own numbers.
 use Prim.Native.Nat.{ℕ, _+_, _*_}
-use Rattle.std.specs.Options.{valueOr}
 use Rattle.std.specs.declared.option.Option.{Option}
 use Rattle.std.specs.declared.option.Option.the-variants.{Some, None}
 use lib.Dec.{eqb, leb}

@@ -1,7 +1,7 @@
 -- A floor lowered as little as the package that is left over asks for.
-use Prim.Native.Nat.{ℕ, _≤_, _<_}
+use Prim.Native.Nat.{ℕ, _<_}
 use Rattle.augmenting.specs.Counting.{count}
-use Rattle.augmenting.specs.Owners.{Closed, Free, Has, Matching, Tried, seen}
+use Rattle.augmenting.specs.Owners.{Closed, Has, Matching, Tried, seen}
 use Rattle.augmenting.specs.Sets.{OneFewer}
 use Rattle.bottleneck.specs.Codes.{grade-of-code, table-grades}
 use Rattle.bottleneck.specs.Floors.{from-floor}

@@ -11,7 +11,6 @@ ghost use Rattle.bottleneck.specs.Lowered.{Left-over, Lowered, Placed-before, 
 ghost use Rattle.std.specs.Results.{Cases};
 ghost use Rattle.std.specs.declared.option.Option.the-variants.{None, Some};
 ghost use lib.ListN.{getD};
-ghost use mathlib.Core.Bool.{true};
 ghost use mathlib.Core.Path.{_≡_};
 use super::Table;
 use super::TablePattern;

@@ -1,11 +1,11 @@
 -- Numbers of several bytes: what stands in the bytes is what they were made of, and the other way.
-use Prim.Native.Nat.{ℕ, zero, suc, _+_, _*_, _/_, _%_, _^_, _<_, _≤_}
+use Prim.Native.Nat.{ℕ, _+_, _*_, _/_, _%_, _^_, _<_, _≤_}
 use Rattle.file_format.specs.FileOf.{grade-bytes, head-bytes}
-use Rattle.file_format.specs.Layout.{two-bytes, three-bytes, six-bytes, count-in, sheet-in}
+use Rattle.file_format.specs.Layout.{two-bytes, six-bytes, count-in, sheet-in}
 use Rattle.std.proofs.shelf.Bits.{shr-shr, div-add-mod'}
-use lib.ListN.{length, getD, take, drop}
-use mathlib.Core.List.{List, [], _∷_, _++_}
-use mathlib.Core.Path.{_≡_, refl, subst}
+use lib.ListN.{length, getD, take}
+use mathlib.Core.List.{List, [], _∷_}
+use mathlib.Core.Path.{_≡_, subst}
 use native.Mathlib.Omega.{arith}
 
 module _ (a b c d : ℕ) (l : a < 256) (m : b < 256) (n : c < 256) (o : d < 256) where

@@ -4,23 +4,24 @@ use Rattle.books.proofs.Standing.{changed-same, changed-other, standing-changed
 use Rattle.books.specs.Limits.{Within, inside}
 use Rattle.books.specs.Meaning.{one, changed, standing}
 use Rattle.file_format.proofs.Bytes.{six-exact, head-exact, four-below}
-use Rattle.file_format.proofs.Orders.{Before, before-true, before-chain, before-apart, not-before, Inside, inside-parts}
+use Rattle.books.proofs.Inside.{Lies, lies}
+use Rattle.file_format.proofs.Orders.{Before, before-true, before-chain, before-apart, not-before}
 use Rattle.file_format.proofs.Pushed.{grades-push, grades-none}
 use Rattle.file_format.specs.FileOf.{grade-bytes, grades-bytes, grades-upto, grade-in, head-bytes, file-of, Graded}
-use Rattle.file_format.specs.Layout.{after, last-of, record-in, six-bytes, start-of, whole, count-in, sheet-in, two-bytes, before}
+use Rattle.file_format.specs.Layout.{after, last-of, record-in, start-of, whole, count-in, sheet-in, two-bytes, before}
 use Rattle.file_format.specs.Laws.{Bytes}
-use Rattle.file_format.specs.Rules.{Expected, just, Right, Right-part, Records-right, first-count, sheet-record, second-count, grade-record, the-end}
+use Rattle.file_format.specs.Rules.{just, Right, Right-part, Records-right, first-count, sheet-record, second-count, grade-record, the-end}
 use Rattle.refusals.specs.declared.fault.Cause.{Cause}
 use Rattle.std.proofs.shelf.Lists.{getD-drop, drop-drop, length-drop, take-append-drop, take-all}
-use Rattle.std.proofs.shelf.Tests.{and-parts, leb-true, eqb-true, cases-eq, cases-bool, cond-false, cond-true, ne-eqb, true≢false}
+use Rattle.std.proofs.shelf.Tests.{and-parts, leb-true, eqb-true, cases-bool, cond-false, cond-true, ne-eqb, true≢false}
 use Rattle.std.specs.declared.option.Option.{Option}
 use Rattle.std.specs.declared.option.Option.the-variants.{Some, None}
 use lib.Dec.{leb, eqb}
 use lib.ListN.{length, getD, take, drop}
 use lib.Seq.{take-add}
 use mathlib.Core.Bool.{Bool, true, false, _&&_, cond}
-use mathlib.Core.List.{List, [], _++_}
-use mathlib.Core.Logic.{_⊎_, inl, inr, ⊎-elim}
+use mathlib.Core.List.{List, _++_}
+use mathlib.Core.Logic.{_⊎_, ⊎-elim}
 use mathlib.Core.Path.{_≡_, refl, sym, ap, subst, _∙_}
 use native.Mathlib.Omega.{arith}
 
@@ -99,8 +100,8 @@ module _ (valid : ℕ → Bool) (p t : ℕ) (bs : List ℕ) (B : Bytes bs) (n : 
   abbrev c : ℕ
   c = record-in bs (suc n) .code
 
-  placed-in : Inside p t a b
-  placed-in = inside-parts p t a b (W .placed)
+  placed-in : Lies p t a b
+  placed-in = lies p t a b (W .placed)
 
   bytes-from : (k : ℕ) → getD (drop o bs) k 0 < 256
   bytes-from k = let e = getD-drop o bs k 0 in let l = B (o + k) in omega (arith, e, l)
@@ -126,8 +127,8 @@ module _ (valid : ℕ → Bool) (p t : ℕ) (bs : List ℕ) (B : Bytes bs) (n : 
   more-bytes =
       let w = placed-in in
       let x =
-      grades-push a b c F (changed F a b (Some c)) p t (w .low-pkg) (w .high-pkg) (w .low-translator)
-      (w .high-translator) (changed-other F a b (Some c)) (changed-same F a b (Some c)) free in
+      grades-push a b c F (changed F a b (Some c)) p t (w .row) (w .row-most) (w .column)
+      (w .column-most) (changed-other F a b (Some c)) (changed-same F a b (Some c)) free in
       let len : 6 ≤ length (drop o bs) = omega (arith, length-drop o bs, W .whole-in) in
       let y : take 6 (drop o bs) ≡ grade-bytes a b c = six-exact (drop o bs) len bytes-from in
       let d : drop (6 * n) (drop 7 bs) ≡ drop o bs =
@@ -141,8 +142,8 @@ module _ (valid : ℕ → Bool) (p t : ℕ) (bs : List ℕ) (B : Bytes bs) (n : 
   more-stand =
       let w = placed-in in
       let s =
-      standing-changed F (changed F a b (Some c)) p t a b (w .low-pkg) (w .high-pkg) (w .low-translator)
-      (w .high-translator) (changed-other F a b (Some c)) in
+      standing-changed F (changed F a b (Some c)) p t a b (w .row) (w .row-most) (w .column)
+      (w .column-most) (changed-other F a b (Some c)) in
       let u : one (F a b) ≡ 0 = ap one free-here in
       let v : one (changed F a b (Some c) a b) ≡ 1 = ap one (changed-same F a b (Some c)) in
       omega (arith, s, u, v, U .stand)

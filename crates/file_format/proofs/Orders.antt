@@ -1,8 +1,9 @@
 -- The order of pairs, by package and then by translator, and pairs inside the sizes.
-use Prim.Native.Nat.{ℕ, _<_, _≤_}
+use Prim.Native.Nat.{ℕ, _<_}
+use Rattle.books.proofs.Inside.{Lies}
 use Rattle.books.specs.Limits.{inside}
 use Rattle.file_format.specs.Layout.{before}
-use Rattle.std.proofs.shelf.Tests.{and-parts, and-from, cases-order, leb-true, le-leb, ltb-true, eqb-true, lt-ltb, eq-eqb, or-cases, or-left, or-right}
+use Rattle.std.proofs.shelf.Tests.{and-parts, and-from, cases-order, le-leb, ltb-true, eqb-true, lt-ltb, eq-eqb, or-cases, or-left, or-right}
 use lib.Dec.{leb, ltb, eqb}
 use mathlib.Core.Bool.{true, _&&_}
 use mathlib.Core.Logic.{_⊎_, inl, inr, ⊎-elim}
@@ -34,31 +35,13 @@ pub before-apart : (i j k l : ℕ) → Before i j k l → (k ≡ i) × (l ≡ j)
 before-apart i j k l (inl a) e = omega (arith, e .0)
 before-apart i j k l (inr a) e = omega (arith, a .1, e .1)
 
-pub record Inside (p t i j : ℕ) : Type 0 where
-  pub low-pkg : 1 ≤ i
-  pub high-pkg : i ≤ p
-  pub low-translator : 1 ≤ j
-  pub high-translator : j ≤ t
-
-pub inside-parts : (p t i j : ℕ) → inside p t i j ≡ true → Inside p t i j
-inside-parts p t i j e =
-    let w = and-parts (leb 1 i && leb i p && leb 1 j) (leb j t) e in
-    let v = and-parts (leb 1 i && leb i p) (leb 1 j) (w .0) in
-    let u = and-parts (leb 1 i) (leb i p) (v .0) in
-    record {
-      low-pkg = leb-true 1 i (u .0);
-      high-pkg = leb-true i p (u .1);
-      low-translator = leb-true 1 j (v .1);
-      high-translator = leb-true j t (w .1);
-    }
-
-pub inside-from : (p t i j : ℕ) → Inside p t i j → inside p t i j ≡ true
+pub inside-from : (p t i j : ℕ) → Lies p t i j → inside p t i j ≡ true
 inside-from p t i j w =
     and-from (leb 1 i && leb i p && leb 1 j) (leb j t)
     (and-from (leb 1 i && leb i p) (leb 1 j)
-    (and-from (leb 1 i) (leb i p) (le-leb 1 i (w .low-pkg)) (le-leb i p (w .high-pkg)))
-    (le-leb 1 j (w .low-translator)))
-    (le-leb j t (w .high-translator))
+    (and-from (leb 1 i) (leb i p) (le-leb 1 i (w .row)) (le-leb i p (w .row-most)))
+    (le-leb 1 j (w .column)))
+    (le-leb j t (w .column-most))
 
 -- of two pairs one is before the other, or they are the same
 pub not-before :

@@ -1,5 +1,5 @@
 -- A grade put after all others adds its record at the end of the bytes.
-use Prim.Native.Nat.{ℕ, zero, suc, _+_, _<_, _≤_}
+use Prim.Native.Nat.{ℕ, zero, suc, _+_, _≤_}
 use Rattle.file_format.proofs.Orders.{Before}
 use Rattle.file_format.specs.FileOf.{grade-bytes, of-grade, row-bytes, grades-bytes}
 use Rattle.std.proofs.shelf.Lists.{append-nil, append-assoc}
@@ -7,8 +7,8 @@ use Rattle.std.proofs.shelf.Tests.{cases-eq}
 use Rattle.std.specs.declared.option.Option.{Option}
 use Rattle.std.specs.declared.option.Option.the-variants.{Some, None}
 use mathlib.Core.List.{List, [], _++_}
-use mathlib.Core.Logic.{inl, inr, ⊎-elim}
-use mathlib.Core.Path.{_≡_, refl, sym, ap, _∙_}
+use mathlib.Core.Logic.{⊎-elim}
+use mathlib.Core.Path.{_≡_, refl, ap, _∙_}
 use native.Mathlib.Omega.{arith}
 
 -- two rows that agree have the same bytes

@@ -1,11 +1,9 @@
 -- The laws of the round trip: which strings are right, what they hold, and that they differ in their
 -- grades where they differ.
-use Prim.Native.Nat.{ℕ}
 use Rattle.file_format.proofs.Decoded.{right-file, right-graded}
 use Rattle.file_format.proofs.Encoded.{file-right, file-grades}
 use Rattle.file_format.specs.FileOf.{file-of, grade-in}
 use Rattle.file_format.specs.Laws.{Right-is-the-file, File-is-right, Same-grades-same-bytes}
-use Rattle.std.specs.declared.option.Option.{Option}
 use mathlib.Core.Path.{_≡_, sym, ap, _∙_}
 
 pub right-is-the-file : Right-is-the-file

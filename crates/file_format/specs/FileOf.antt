@@ -1,11 +1,10 @@
 -- The bytes of a saved file: a kind number, sizes and a partial map determine them.
-use Prim.Native.Nat.{ℕ, zero, suc, _+_, _*_, _/_, _%_, _^_, _<_}
+use Prim.Native.Nat.{ℕ, zero, suc, _+_, _/_, _%_, _^_, _<_}
 use Rattle.books.specs.Limits.{Within, inside}
 use Rattle.books.specs.Meaning.{changed, standing}
 use Rattle.file_format.specs.Layout.{count-in, record-in}
 use Rattle.std.specs.declared.option.Option.{Option}
 use Rattle.std.specs.declared.option.Option.the-variants.{Some, None}
-use lib.Dec.{eqb}
 use mathlib.Core.Bool.{Bool, true, false}
 use mathlib.Core.List.{List, [], _∷_, _++_}
 use mathlib.Core.Path.{_≡_}

@@ -15,7 +15,7 @@ use lib.ListN.{drop, getD, length, take}
 use mathlib.Core.Bool.{Bool, true, false, cond}
 use mathlib.Core.List.{List, _++_}
 use mathlib.Core.Logic.{_⊎_, inl, inr, ⊎-elim}
-use mathlib.Core.Path.{_≡_, refl, sym, ap, subst, _∙_}
+use mathlib.Core.Path.{_≡_, sym, ap, _∙_}
 use native.Mathlib.Omega.{arith}
 
 pub counted-valid : (valid : ℕ → Bool) (g : Option ℕ) (code : ℕ) → counted valid g ≡ Some code → valid code ≡ true

@@ -1,7 +1,7 @@
 -- From the owners that were found to the best plan.
 use Prim.Native.Nat.{ℕ, _+_, _-_, _≤_, _<_}
 use Rattle.augmenting.proofs.Counts.{all-or}
-use Rattle.augmenting.specs.Assigned.{Assigns, Complete, Least}
+use Rattle.augmenting.specs.Assigned.{Complete}
 use Rattle.augmenting.specs.Owners.{seen}
 use Rattle.bottleneck.proofs.Lowering.{some-graded, some-of}
 use Rattle.bottleneck.proofs.Ranks.{compared}
@@ -15,12 +15,12 @@ use Rattle.std.proofs.shelf.Lists.{getD-take, length-take-le}
 use Rattle.std.proofs.shelf.Tests.{both-ways, not-true}
 use Rattle.std.specs.Options.{isSome}
 use Rattle.std.specs.declared.option.Option.{Option}
-use Rattle.std.specs.declared.option.Option.the-variants.{Some, None}
+use Rattle.std.specs.declared.option.Option.the-variants.{Some}
 use lib.ListN.{getD, length, take}
 use mathlib.Core.Bool.{Bool, true, false, not}
 use mathlib.Core.List.{List}
 use mathlib.Core.Logic.{_⊎_, inl, inr, ⊎-elim}
-use mathlib.Core.Path.{_≡_, refl, sym, ap, subst, _∙_}
+use mathlib.Core.Path.{_≡_, sym, ap, _∙_}
 use native.Mathlib.Omega.{arith}
 
 pub each-once : (C : ℕ → ℕ → Bool) (p t : ℕ) (o : List ℕ) → Complete C p t o → Each-once p o

@@ -3,20 +3,20 @@ use Prim.Native.Nat.{ℕ, zero, suc, _+_, _-_, _≤_, _<_}
 use Rattle.augmenting.proofs.Gathered.{ruled-out}
 use Rattle.augmenting.specs.Assigned.{Assigns}
 use Rattle.augmenting.specs.Sets.{OneFewer}
-use Rattle.bottleneck.proofs.Lowering.{some-graded, some-of}
-use Rattle.bottleneck.proofs.Ranks.{asym, compared}
-use Rattle.bottleneck.specs.Grades.{All-valid, graded, graded-above, graded-from, passes}
+use Rattle.bottleneck.proofs.Lowering.{some-graded}
+use Rattle.bottleneck.proofs.Ranks.{compared}
+use Rattle.bottleneck.specs.Grades.{All-valid, graded, graded-above, passes}
+use Rattle.grades.proofs.Laws.{strict}
 use Rattle.grades.specs.Order.{Order}
 use Rattle.matching.specs.Plans.{BestPlan, First-before, FullPlan, LowestGrade, TightSet}
 use Rattle.std.proofs.shelf.Lists.{ext-getD}
 use Rattle.std.proofs.shelf.Tests.{both-ways, cases-eq}
 use Rattle.std.specs.declared.option.Option.{Option}
-use Rattle.std.specs.declared.option.Option.the-variants.{Some, None}
 use lib.ListN.{getD, length}
-use mathlib.Core.Bool.{Bool, true, false, not}
+use mathlib.Core.Bool.{Bool, true, false}
 use mathlib.Core.List.{List}
-use mathlib.Core.Logic.{_⊎_, inl, inr, ⊎-elim}
-use mathlib.Core.Path.{_≡_, refl, sym, ap, subst, _∙_}
+use mathlib.Core.Logic.{_⊎_, ⊎-elim}
+use mathlib.Core.Path.{_≡_, sym, ap, subst, _∙_}
 use native.Mathlib.Omega.{arith}
 
 -- a full plan by places
@@ -83,7 +83,7 @@ same-code valid above o G all p t plan other lowest code a b =
     (λ q.
     ⊎-elim
     (λ r. r)
-    (λ r. absurd (both-ways (above code lowest) (asym valid above o lowest code v w q) r))
+    (λ r. absurd (both-ways (above code lowest) (strict o lowest code v w q) r))
     (b .bottleneck plan lowest (a .full) (a .lowest-grade)))
     (a .bottleneck other code (b .full) (b .lowest-grade))
   where

@@ -41,7 +41,8 @@ pub fn match_into<R: Reading, K: Kind>(
     ensures { λ r. ⌜ Answered above (valid-grades valid (meaning (now (grades .entry)))) (meaning (now (grades .entry)) .packages) (meaning (now (grades .entry)) .translators) (now (plan .entry)) (now (set .entry)) (now (plan .exit)) (now (set .exit)) r ⌝ }
 {
     let packages = grades.packages();
-    if plan.len() < packages as usize || set.len() < packages as usize {
+    let room = plan.len().min(set.len());
+    if room < packages as usize {
         return Err(Refusal::Space);
     }
     match best_plan::<R, K>(grades) {

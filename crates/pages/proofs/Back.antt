@@ -41,7 +41,7 @@ itself (Some c) = refl
 -- what is asked of a load that no reason holds against
 module _
     (q : Opening) (s : Standing) (l : Line) (file : List ℕ) (is : l .call ≡ Call.load file) (manager : l .role ≡ 3)
-    (idle : isSome (s .out) ≡ true → ⊥) (empty : (i j : ℕ) → isSome (s .grade i j) ≡ true → ⊥)
+    (idle : isSome (s .out) ≡ true → ⊥) (empty : (i j : ℕ) → s .grade i j ≡ None)
     (right : rules.Right (file-expected q) file) (room : count-in file ≤ q .limit)
   where
     other : (c : Call) → l .call ≡ c → (ordinal c ≡ 2 → ⊥) → ⊥
@@ -53,7 +53,7 @@ module _
     load-is-free r (Reason.slip-is-out w x) = idle x
     load-is-free r (Reason.no-slip-is-out tag w x) = never-some tag (sym (ap slip-of is) ∙ w)
     load-is-free r (Reason.slip-of-another-tag tag w x) = never-some tag (sym (ap slip-of is) ∙ w)
-    load-is-free r (Reason.sheet-has-a-grade f i j w x) = empty i j x
+    load-is-free r (Reason.sheet-has-a-grade f w x) = x empty
     load-is-free r (Reason.outside-the-sizes a b w x) = never-some (a, b) (sym (ap pair-of is) ∙ w)
     load-is-free r (Reason.code-not-valid a b code w x) = other (Call.grade a b code) w (λ e. omega arith)
     load-is-free r (Reason.no-grade-to-take a b w x) = other (Call.strike a b) w (λ e. omega arith)
@@ -159,7 +159,7 @@ saved-grades-come-back o q h above e f a b none few manager is = (done, back)
     idle x = let w = out-needs-a-grade q above (b .1) x in empty (w .0) (w .1) (w .2)
 
     done : e .answer .outcome ≡ Outcome.done
-    done = load-done q s (e .line) file is manager idle empty right room (e .answer) (b .0)
+    done = load-done q s (e .line) file is manager idle none right room (e .answer) (b .0)
 
     back : (i j : ℕ) → grade-at (e ∷ above) i j ≡ grade-at h i j
     back i j =
@@ -193,7 +193,7 @@ loaded-files-are-saved-ones o above e file a is done = whole (a .0)
         ∙ ap (file-of (o .number) (o .packages) (o .translators)) (λ m i j. same i j m)
       where
         none : (i j : ℕ) → grade-at above i j ≡ None
-        none i j = none-from (grade-at above i j) (λ y. n refusal.NotEmpty (Reason.sheet-has-a-grade file i j is y))
+        none i j = none-from (grade-at above i j) (λ y. n refusal.NotEmpty (Reason.sheet-has-a-grade file is (λ w. both-ways (isSome (grade-at above i j)) (ap isSome (w i j)) y)))
 
         same : (i j : ℕ) → grade-in file i j ≡ grade-at (e ∷ above) i j
         same i j =

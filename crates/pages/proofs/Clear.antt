@@ -13,7 +13,7 @@ use Rattle.refusals.specs.declared.refusal.Refusal.{Refusal}
 use Rattle.refusals.specs.declared.refusal.Refusal.the-variants as refusal
 use Rattle.std.proofs.shelf.Tests.{both-ways}
 use Rattle.std.specs.Options.{isSome}
-use Rattle.std.specs.declared.option.Option.the-variants.{Some}
+use Rattle.std.specs.declared.option.Option.the-variants.{Some, None}
 use lib.ListN.{length}
 use mathlib.Core.Bool.{true, false}
 use mathlib.Core.List.{List}
@@ -25,7 +25,7 @@ pub record Clear (o : Opening) (s : Standing) (l : Line) (n : ℕ) : Type 0 wher
   pub role : 2 < n → may (least-role (l .call)) (l .role) ≡ true
   pub idle : 3 < n → wants-idle (l .call) ≡ true → isSome (s .out) ≡ false
   pub slip : 4 < n → (tag : ℕ) → slip-of (l .call) ≡ Some tag → (isSome (s .out) ≡ true) × (tag ≡ o .tag)
-  pub empty : 5 < n → (file : List ℕ) → l .call ≡ Call.load file → (i j : ℕ) → isSome (s .grade i j) ≡ false
+  pub empty : 5 < n → (file : List ℕ) → l .call ≡ Call.load file → (i j : ℕ) → s .grade i j ≡ None
   pub place : 6 < n → (a b : ℕ) → pair-of (l .call) ≡ Some (a, b) → inside (o .packages) (o .translators) a b ≡ true
   pub code : 7 < n → (a b code : ℕ) → l .call ≡ Call.grade a b code → o .valid code ≡ true
   pub taken : 8 < n → (a b : ℕ) → l .call ≡ Call.strike a b → isSome (s .grade a b) ≡ true
@@ -44,7 +44,7 @@ none-below o s l n c q b (Reason.lacks-the-right w) = both-ways (may (least-role
 none-below o s l n c q b (Reason.slip-is-out w x) = both-ways (isSome (s .out)) (c .idle b w) x
 none-below o s l n c q b (Reason.no-slip-is-out tag w x) = both-ways (isSome (s .out)) x (c .slip b tag w .0)
 none-below o s l n c q b (Reason.slip-of-another-tag tag w x) = x (c .slip b tag w .1)
-none-below o s l n c q b (Reason.sheet-has-a-grade file i j w x) = both-ways (isSome (s .grade i j)) (c .empty b file w i j) x
+none-below o s l n c q b (Reason.sheet-has-a-grade file w x) = x (c .empty b file w)
 none-below o s l n c q b (Reason.outside-the-sizes i j w x) =
     both-ways (inside (o .packages) (o .translators) i j) x (c .place b i j w)
 none-below o s l n c q b (Reason.code-not-valid i j code w x) = both-ways (o .valid code) x (c .code b i j code w)

@@ -78,7 +78,7 @@ module _ (o : Opening) (s : Standing) (role : ℕ) (plan set : List ℕ) (n : �
 
   pub load-clear :
       (file : List ℕ) → (2 < n → may 3 role ≡ true) → (3 < n → isSome (s .out) ≡ false)
-      → (5 < n → (i j : ℕ) → isSome (s .grade i j) ≡ false)
+      → (5 < n → (i j : ℕ) → s .grade i j ≡ None)
       → (10 < n → (f : Fault) → Faulty (file-expected o) file f → ⊥) → (11 < n → count-in file ≤ o .limit)
       → Clear o s (line (Call.load file)) n
   load-clear file f2 f3 f5 f10 f11 =

@@ -4,6 +4,7 @@ pub mod Clear
 pub mod Clears
 pub mod Determined
 pub mod Kept
+pub mod Lengths
 pub mod Numbers
 pub mod Off
 pub mod Runs

@@ -82,8 +82,9 @@ pub data Reason (o : Opening) (s : Standing) (l : Line) : Refusal → Type 0 whe
   slip-is-out : wants-idle (l .call) ≡ true → isSome (s .out) ≡ true → Reason o s l refusal.SlipOut
   no-slip-is-out : (tag : ℕ) → slip-of (l .call) ≡ Some tag → isSome (s .out) ≡ false → Reason o s l refusal.WrongSlip
   slip-of-another-tag : (tag : ℕ) → slip-of (l .call) ≡ Some tag → (tag ≡ o .tag → ⊥) → Reason o s l refusal.WrongSlip
+  -- not every pair is without a grade
   sheet-has-a-grade :
-      (file : List ℕ) (i j : ℕ) → l .call ≡ Call.load file → isSome (s .grade i j) ≡ true → Reason o s l refusal.NotEmpty
+      (file : List ℕ) → l .call ≡ Call.load file → (((i j : ℕ) → s .grade i j ≡ None) → ⊥) → Reason o s l refusal.NotEmpty
   outside-the-sizes :
       (a b : ℕ) → pair-of (l .call) ≡ Some (a, b) → inside (o .packages) (o .translators) a b ≡ false
       → Reason o s l refusal.Place

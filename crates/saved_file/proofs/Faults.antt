@@ -1,6 +1,5 @@
 -- From what the reader of one part answers to the fault of the file, or to a part that is right.
-use Prim.Native.Nat.{ℕ, _<_, _≤_, _+_, _-_}
-use Rattle.refusals.specs.Faults.{fault-at}
+use Prim.Native.Nat.{ℕ, _<_, _+_, _-_}
 use Rattle.refusals.specs.declared.fault.Cause.{Cause}
 use Rattle.refusals.specs.declared.fault.Fault.{Fault}
 use Rattle.file_format.proofs.Once.{right-or-one-fault}
@@ -12,7 +11,6 @@ use Rattle.file_format.specs.declared.records.GradeRecord.{GradeRecord}
 use Rattle.std.proofs.shelf.Tests.{cases-eq, cond-false, ne-eqb}
 use Rattle.std.specs.declared.option.Option.{Option}
 use Rattle.std.specs.declared.option.Option.the-variants.{Some, None}
-use Rattle.std.specs.declared.result.Result.{Result}
 use Rattle.std.specs.declared.result.Result.the-variants.{Ok, Err}
 use lib.Dec.{eqb}
 use lib.ListN.{drop}

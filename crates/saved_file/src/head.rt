@@ -1,8 +1,10 @@
 // What the record of section 1 says of a file by itself.
 use books::Sizes;
 
+mod alone;
 mod reading;
 
+pub use alone::check_by_itself;
 pub use reading::read_head;
 
 // The kinds that are there.

@@ -7,4 +7,5 @@ pub use checked::CheckedFile;
 pub use checked::check_file;
 pub use head::Head;
 pub use head::KindName;
+pub use head::check_by_itself;
 pub use head::read_head;

@@ -2,14 +2,14 @@
 use Prim.Native.Nat.{ℕ, suc, _+_, _^_, _<_, _≤_}
 use Rattle.saved_writer.specs.Written.{Code-fits, Codes-fit, Row-fits, put-at}
 use Rattle.std.proofs.shelf.Edits.{sets-eq}
-use Rattle.std.proofs.shelf.Lists.{append-assoc, append-nil, drop-at, drop-drop, length-append, length-take-le, take-append-drop, take-at}
+use Rattle.std.proofs.shelf.Lists.{append-assoc, drop-at, drop-drop, length-append, length-take-le, take-append-drop, take-at}
 use Rattle.std.proofs.shelf.Tests.{cases-eq}
 use Rattle.std.specs.declared.option.Option.{Option}
 use Rattle.std.specs.declared.option.Option.the-variants.{Some, None}
 use lib.ListN.{length, set, take, drop}
 use mathlib.Core.List.{List, [], _∷_, _++_}
 use mathlib.Core.Logic.{⊎-elim}
-use mathlib.Core.Path.{_≡_, refl, sym, ap, subst, _∙_}
+use mathlib.Core.Path.{_≡_, sym, ap, subst, _∙_}
 use native.Mathlib.Nat.{add-zero}
 use native.Mathlib.Omega.{arith}
 

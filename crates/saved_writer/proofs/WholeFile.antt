@@ -2,10 +2,9 @@
 use Prim.Native.Nat.{ℕ, _+_, _*_, _^_, _<_, _≤_}
 use Rattle.books.specs.Limits.{inside}
 use Rattle.books.specs.Meaning.{Meaning, Sound, count}
-use Rattle.file_format.proofs.Orders.{inside-parts}
+use Rattle.books.proofs.Inside.{lies}
 use Rattle.file_format.proofs.RoundTrip.{file-is-right}
 use Rattle.file_format.specs.FileOf.{head-bytes, grades-bytes}
-use Rattle.refusals.specs.declared.refusal.Refusal.{Refusal}
 use Rattle.refusals.specs.declared.refusal.Refusal.the-variants.{Space}
 use Rattle.saved_writer.proofs.Lengths.{length-grades}
 use Rattle.saved_writer.proofs.Places.{put-first, put-put}
@@ -13,7 +12,6 @@ use Rattle.saved_writer.specs.Written.{Codes-fit, Reads-back, file-of-meaning,
 use Rattle.std.proofs.shelf.Lists.{length-append}
 use Rattle.std.proofs.shelf.Tests.{cases-bool, cond-false, cond-true, le-leb, lt-leb}
 use Rattle.std.specs.declared.option.Option.the-variants.{Some}
-use Rattle.std.specs.declared.result.Result.{Result}
 use Rattle.std.specs.declared.result.Result.the-variants.{Ok, Err}
 use lib.Dec.{leb}
 use lib.ListN.{length, drop}
@@ -74,7 +72,7 @@ reads-back number valid m s f h =
     fits i j code e =
         ⊎-elim
         (λ w.
-        let v = inside-parts (m .packages) (m .translators) i j w in
-        f i (v .low-pkg) (v .high-pkg) j (v .low-translator) (v .high-translator) code e)
+        let v = lies (m .packages) (m .translators) i j w in
+        f i (v .row) (v .row-most) j (v .column) (v .column-most) code e)
         (λ w. let k = s .outside i j w in absurd (let z : _≡_ {A = ℕ} 0 1 = cc in omega arith))
         (cases-bool (inside (m .packages) (m .translators) i j))

@@ -1,7 +1,7 @@
 // Reading a whole file: its sections in order, and then nothing.
 ghost use Prim.Native.Nat.{ℕ};
 ghost use Rattle.file_format.specs.FileOf.{Graded, file-of, grade-in};
-ghost use Rattle.file_format.specs.Laws.{Right-or-one-fault};
+ghost use Rattle.file_format.specs.Laws.{Right-or-one-fault, Same-grades-same-bytes};
 ghost use Rattle.file_format.specs.Layout.{count-in};
 ghost use Rattle.file_format.specs.Rules.{Faulty, Right, just};
 ghost use Rattle.std.specs.Results.{Cases};
@@ -30,6 +30,7 @@ pub fn check_file<'a, K: Kind>(file: &'a [u8], sizes: Sizes) -> Result<CheckedFi
     ensures told { λ r. ⌜ Cases r (λ f. (f .file .now ≡ now (file .entry)) × (f .count ≡ count-in (now (file .entry))) × Right (just number valid (sizes .packages) (sizes .translators)) (now (file .entry))) (λ fault. Faulty (just number valid (sizes .packages) (sizes .translators)) (now (file .entry)) fault) ⌝ }
     ensures accepted { λ r. ⌜ Cases r (λ _. Graded valid (sizes .packages) (sizes .translators) (grade-in (now (file .entry))) × (now (file .entry) ≡ file-of number (sizes .packages) (sizes .translators) (grade-in (now (file .entry))))) (λ _. (G : ℕ → ℕ → Optional ℕ) → Graded valid (sizes .packages) (sizes .translators) G → now (file .entry) ≡ file-of number (sizes .packages) (sizes .translators) G → ⊥) ⌝ }
     ensures once { λ _. ⌜ Right-or-one-fault ⌝ }
+    ensures same { λ _. ⌜ Same-grades-same-bytes ⌝ }
 {
     let count = read_sections::<K>(file, sizes)?;
     Ok(CheckedFile { file, count })

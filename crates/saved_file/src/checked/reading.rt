@@ -1,5 +1,5 @@
 // What a checked file tells.
-ghost use Rattle.file_format.specs.Layout.{record-in, six-bytes, start-of, whole};
+ghost use Rattle.file_format.specs.Layout.{record-in, sheet-in, six-bytes, start-of, whole};
 ghost use Rattle.std.specs.declared.option.Option.the-variants.{Some, None};
 ghost use lib.Dec.{leb};
 ghost use lib.ListN.{length};
@@ -7,6 +7,7 @@ ghost use mathlib.Core.Bool.{_&&_, cond};
 ghost use mathlib.Core.Path.{_≡_};
 use super::CheckedFile;
 use file_format::GradeRecord;
+use file_format::SheetRecord;
 
 // The grade record at the front of some bytes, if they are enough.
 fn front_record(bytes: &[u8]) -> Option<GradeRecord>
@@ -28,6 +29,20 @@ impl<'a> CheckedFile<'a> {
         ensures { λ r. ⌜ r ≡ now (self .entry) .count ⌝ }
     {
         self.count
+    }
+
+    // The kind number and the sizes, where the file is long enough for them.
+    pub fn sheet_record(&self) -> Option<SheetRecord>
+        ensures { λ r. ⌜ r ≡ cond (whole (now (self .entry) .file .now) 2 3) (Some (sheet-in (now (self .entry) .file .now))) None ⌝ }
+    {
+        let [_, _, kind, packages, translators, ..] = self.file else {
+            return None;
+        };
+        Some(SheetRecord {
+            kind: *kind,
+            packages: *packages,
+            translators: *translators,
+        })
     }
 
     // The grade record of a number, counted from 1, where there is one.

@@ -1,11 +1,15 @@
 use Prim.Native.Nat.{_<_}
+use Rattle.augmenting.proofs.Necessity.{needed-at}
 use Rattle.augmenting.proofs.Passing.{handed-on-at, kept-passed, kept-taken, taken-at, unseen-falls, unseen-le, failed-at, passed-over}
 use Rattle.augmenting.proofs.paths.+augment.Needs as need
 use Rattle.augmenting.proofs.paths.+augment.Needs.{then-not-visited-place·then-may-join·else-holder-eq0·else-augment, else-not-visited-place, else-not-visited-place·by·then-not-visited-place·else-may-join, else-not-visited-place·by·else-not-visited-place}
+use Rattle.augmenting.specs.Owners.{Needed}
 use Rattle.std.proofs.shelf.Tests.{true≢false, both-ways}
 use borrow.Author.Needs.{needs}
 use lib.ListN.{length, getD}
-use mathlib.Core.Path.{_≡_, sym, ap, _∙_}
+use mathlib.Core.Bool.{Bool}
+use mathlib.Core.List.{List}
+use mathlib.Core.Path.{sym, ap, subst, _∙_}
 use native.Mathlib.Omega.{arith}
 
 pub returns-then-holder-eq0 : need.returns-then-holder-eq0
@@ -22,6 +26,7 @@ returns-then-holder-eq0 g t c =
           l h (sym (c .if-may-join .ensures tt)) (c .if-holder-eq0 .taken) m f;
       same = λ q. absurd (true≢false q);
       closed = λ q. absurd (true≢false q);
+      needed = λ q. absurd (true≢false q);
       tried = λ q. absurd (true≢false q);
     }
 
@@ -48,6 +53,7 @@ returns-then-augment g t c =
           l h k (sym (c .if-may-join .ensures tt)) z (c .augment .ensures .kept) (c .augment .ensures .found (c .if-augment .taken) z) m f;
       same = λ q. absurd (true≢false q);
       closed = λ q. absurd (true≢false q);
+      needed = λ q. absurd (true≢false q);
       tried = λ q. absurd (true≢false q);
     }
 
@@ -62,16 +68,27 @@ loop-j-again g t c =
     let j = c .loop-j .j in
     let i = c .args .pkg in
     let h : j < length w = search needs in
+    let l : j < n = search needs in
     elim (c .if-not-visited-place .came) [
       | then-not-visited-place·then-may-join·else-holder-eq0·else-augment y ↦
+          let z : 0 < getD o j 0 = omega (arith, y .if-holder-eq0 .left) in
+          let f =
           failed-at C n v w (y .augment .last .visited) o a (y .augment .last .owner) j i (c .loop-j .inv .0) (c .loop-j .inv .1) (c .loop-j .inv .2)
-          h (omega (arith, y .if-holder-eq0 .left)) (y .augment .ensures .same (y .if-augment .left)) (y .augment .ensures .closed (y .if-augment .left)) (y .augment .ensures .tried (y .if-augment .left))
-          (c .if-not-visited-place .owner) (c .if-not-visited-place .visited) (y .owner-is) (y .visited-is)
+          h z (y .augment .ensures .same (y .if-augment .left)) (y .augment .ensures .closed (y .if-augment .left)) (y .augment .ensures .tried (y .if-augment .left))
+          (c .if-not-visited-place .owner) (c .if-not-visited-place .visited) (y .owner-is) (y .visited-is) in (
+            f .0,
+            f .1,
+            f .2,
+            needed-at C n v w (y .augment .last .visited) o a j i (c .loop-j .inv .0) l h z (y .if-not-visited-place .taken) (sym (y .if-may-join .ensures tt)) (c .loop-j .inv .1) (c .loop-j .inv .3)
+                (y .augment .ensures .needed (y .if-augment .left)) (c .if-not-visited-place .visited) (y .visited-is),
+          )
       | else-not-visited-place y ↦
+          let f =
           passed-over C n v w o a j i (c .loop-j .inv .0) (c .loop-j .inv .1) (c .loop-j .inv .2)
           (elim (y .else-not-visited-place .came) [
             | else-not-visited-place·by·then-not-visited-place·else-may-join x ↦ λ q. absurd (both-ways (x .may-join .result) (x .if-may-join .left) (x .may-join .ensures ∙ q))
             | else-not-visited-place·by·else-not-visited-place x ↦ λ q. x .if-not-visited-place .left
           ])
-          (c .if-not-visited-place .owner) (c .if-not-visited-place .visited) (y .owner-is) (y .visited-is)
+          (c .if-not-visited-place .owner) (c .if-not-visited-place .visited) (y .owner-is) (y .visited-is) in
+          (f .0, f .1, f .2, subst (λ (b : List Bool). Needed C n i a v b) (sym (y .visited-is)) (c .loop-j .inv .3))
     ]

@@ -1,5 +1,5 @@
 use Prim.Native.Nat.{ℕ}
-use Rattle.bottleneck.proofs.Tops.{From-row, row-more, row-over}
+use Rattle.bottleneck.proofs.Tops.{row-more, row-over}
 use Rattle.bottleneck.proofs.leads.highest_in_row.Needs as need
 use Rattle.bottleneck.proofs.leads.highest_in_row.Needs.{then-not-visited-j, else-not-visited-j}
 use Rattle.bottleneck.specs.Codes.{grade-of-code, table-grades}
@@ -7,7 +7,7 @@ use Rattle.bottleneck.specs.Floors.{Highest-in-row}
 use Rattle.std.proofs.shelf.Tests.{both-ways}
 use Rattle.std.specs.declared.option.Option.{Option}
 use mathlib.Core.Logic.{inl}
-use mathlib.Core.Path.{_≡_, sym, ap, subst, _∙_}
+use mathlib.Core.Path.{sym, ap, subst, _∙_}
 use native.Mathlib.Omega.{arith}
 use Prim.Native.Nat.{_+_}
 

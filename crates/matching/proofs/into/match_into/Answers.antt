@@ -28,8 +28,8 @@ returns-in-Continue-write-into g c =
     let set′ = c .write-members .last .out in
     let right = c .in-Planned .ensures tt in
     let long = right .0 .full .long in
-    let a : p ≤ length plan = (let x = c .if-plan-packages .left in omega (arith, x, e)) in
-    let b : p ≤ length set = (let x = c .if-set-packages .left in omega (arith, x, e)) in
+    let a : p ≤ length plan = omega (arith, e) in
+    let b : p ≤ length set = omega (arith, e) in
     let first : (k : ℕ) → k < p → getD set′ k 0 ≡ cond (seen s k) 1 0 = λ k l. c .write-members .ensures .first k (omega (arith, l, e)) in
     record {
       room = (a, b);
@@ -53,7 +53,7 @@ returns-in-Short g c =
     let right = c .in-Short .ensures tt in
     let first : (k : ℕ) → k < p → getD set′ k 0 ≡ cond (seen s k) 1 0 = λ k l. c .write-members-in-Short .ensures .first k (omega (arith, l, e)) in
     record {
-      room = ((let x = c .if-plan-packages .left in omega (arith, x, e)), (let x = c .if-set-packages .left in omega (arith, x, e)));
+      room = (omega (arith, e), omega (arith, e));
       none = right .0;
       same = refl;
       short = same-members (graded G) p t (seen s) (member set′) (members-written s p set′ first) (right .1);

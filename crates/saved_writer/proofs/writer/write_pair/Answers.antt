@@ -8,7 +8,6 @@ use Rattle.std.specs.declared.option.Option.the-variants.{Some, None}
 use borrow.Author.Needs.{needs}
 use mathlib.Core.Path.{sym, ap, _∙_}
 use native.Mathlib.Nat.{add-zero}
-use native.Mathlib.Omega.{arith}
 
 pub returns-in-Some : need.returns-in-Some
 returns-in-Some g c =

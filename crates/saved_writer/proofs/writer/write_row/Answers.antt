@@ -5,7 +5,6 @@ use Rattle.saved_writer.proofs.Places.{row-fits-more, row-fits-none}
 use Rattle.saved_writer.proofs.Rows.{row-after, row-end, row-room, row-start}
 use Rattle.saved_writer.proofs.writer.write_row.Needs as need
 use Rattle.saved_writer.specs.Written.{Row-fits, put-at}
-use lib.ListN.{length}
 use mathlib.Core.Path.{_≡_, ap, subst, _∙_}
 use native.Mathlib.Omega.{arith}
 

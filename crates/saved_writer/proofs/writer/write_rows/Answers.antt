@@ -4,7 +4,6 @@ use Rattle.saved_writer.proofs.Places.{codes-fit-more, codes-fit-none}
 use Rattle.saved_writer.proofs.Rows.{rows-after, rows-end, rows-room, rows-start}
 use Rattle.saved_writer.proofs.writer.write_rows.Needs as need
 use Rattle.saved_writer.specs.Written.{Codes-fit, put-at}
-use lib.ListN.{length}
 use mathlib.Core.Path.{_≡_, ap, subst, _∙_}
 use native.Mathlib.Omega.{arith}
 

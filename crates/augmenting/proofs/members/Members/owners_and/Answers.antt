@@ -1,11 +1,8 @@
-use Prim.Native.Nat.{_<_}
 use Rattle.augmenting.proofs.members.Members.owners_and.Needs as need
 use Rattle.std.proofs.shelf.Lists.{getD-past}
 use Rattle.std.proofs.shelf.Tests.{cases-lt, both-ways}
-use lib.ListN.{length}
 use mathlib.Core.Bool.{false}
 use mathlib.Core.Logic.{⊎-elim}
-use mathlib.Core.Path.{sym}
 use native.Mathlib.Omega.{arith}
 
 pub ghost-result : need.ghost-result

@@ -6,7 +6,7 @@ use Rattle.std.proofs.shelf.Tests.{cases-eq}
 use borrow.Author.Needs.{needs}
 use lib.ListN.{getD}
 use mathlib.Core.Logic.{⊎-elim}
-use mathlib.Core.Path.{_≡_, sym, ap, subst, _∙_}
+use mathlib.Core.Path.{sym, ap, _∙_}
 use native.Mathlib.Omega.{arith}
 
 pub loop-k-again : need.loop-k-again

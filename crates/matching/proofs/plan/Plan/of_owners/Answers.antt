@@ -4,9 +4,9 @@ use Rattle.matching.proofs.plan.Plan.of_owners.Needs as need
 use Rattle.matching.proofs.plan.Plan.of_owners.Needs.{then-pkg-gt0, else-pkg-gt0}
 use Rattle.matching.specs.Owned.{Reads-off}
 use Rattle.std.proofs.shelf.Lists.{length-set}
-use lib.ListN.{getD, length}
+use lib.ListN.{length}
 use mathlib.Core.List.{List}
-use mathlib.Core.Path.{_≡_, refl, sym, ap, subst, _∙_}
+use mathlib.Core.Path.{refl, sym, ap, subst, _∙_}
 use native.Mathlib.Omega.{arith}
 
 pub loop-j-again : need.loop-j-again

@@ -1,12 +1,10 @@
 use Prim.Native.Nat.{ℕ, _≤_, _<_}
 use Rattle.matching.proofs.Numbers.{copied}
 use Rattle.matching.proofs.plan.Plan.write_into.Needs as need
-use Rattle.matching.specs.Written.{room-for, written}
-use Rattle.refusals.specs.declared.refusal.Refusal.{Refusal}
+use Rattle.matching.specs.Written.{written}
 use Rattle.refusals.specs.declared.refusal.Refusal.the-variants.{Space}
 use Rattle.std.proofs.shelf.Lists.{length-take-le}
 use Rattle.std.proofs.shelf.Tests.{cond-true, le-leb}
-use Rattle.std.specs.declared.result.Result.{Result}
 use Rattle.std.specs.declared.result.Result.the-variants.{Ok, Err}
 use lib.Dec.{leb}
 use lib.ListN.{drop, getD, length, take}

@@ -1,5 +1,5 @@
 use Rattle.file_format.proofs.Once.{right-or-one-fault}
-use Rattle.file_format.proofs.RoundTrip.{right-is-the-file}
+use Rattle.file_format.proofs.RoundTrip.{right-is-the-file, same-grades-same-bytes}
 use Rattle.saved_file.proofs.Faults.{not-a-file}
 use Rattle.saved_file.proofs.checked.reader.check_file.Needs as need
 use Rattle.std.proofs.shelf.Results.{err-from-errBy}
@@ -14,6 +14,7 @@ returns g c =
           right-is-the-file (g .K·Kind .number) (g .K·Kind .valid) (c .args .sizes .packages) (c .args .sizes .translators)
           (c .args .file .now) (c .args .sizes .within) (λ k. c .typed .file k .fits) (h .1);
       once = right-or-one-fault;
+      same = same-grades-same-bytes;
     }
 
 pub returns-in-Break-count : need.returns-in-Break-count
@@ -27,4 +28,5 @@ returns-in-Break-count g c =
           (not-a-file (g .K·Kind .number) (g .K·Kind .valid) (c .args .sizes .packages) (c .args .sizes .translators)
           (c .args .file .now) (c .in-Break-count .field-0 .0) h);
       once = right-or-one-fault;
+      same = same-grades-same-bytes;
     }

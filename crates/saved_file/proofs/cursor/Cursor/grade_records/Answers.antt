@@ -5,7 +5,6 @@ use Rattle.file_format.specs.Layout.{count-in}
 use Rattle.file_format.specs.Rules.{just}
 use Rattle.std.proofs.shelf.Results.{err-from-errBy}
 use borrow.Author.Needs.{needs}
-use mathlib.Core.Path.{_∙_}
 use native.Mathlib.Omega.{arith}
 
 pub returns-in-Break-next-grade-record : need.returns-in-Break-next-grade-record

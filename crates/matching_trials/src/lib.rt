@@ -1,0 +1,5 @@
+// Worked sheets, matched through the public call.
+#[cfg(test)]
+mod sets;
+#[cfg(test)]
+mod sheets;

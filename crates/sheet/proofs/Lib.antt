@@ -1,0 +1,6 @@
+mod Answered
+mod Drawing
+mod Loading
+mod Pairs
+mod Showing
+mod Spends

@@ -1,0 +1,7 @@
+pub mod Admission
+pub mod Draws
+pub mod Files
+pub mod Lines
+pub mod Sheets
+pub mod Steps
+pub mod Told
