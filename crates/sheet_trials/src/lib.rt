@@ -1,0 +1,5 @@
+// The sheet's own calls at the edges of the rules.
+#[cfg(test)]
+mod codes;
+#[cfg(test)]
+mod pages;
