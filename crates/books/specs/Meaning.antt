@@ -1,5 +1,6 @@
 -- What a book means: its sizes and, for each pair of a package and a translator, one code or none.
--- Every book that keeps the rules below is right; how it stores its grades is its own affair.
+-- Every book that keeps `Sound` and the rules of put and take is right; how it stores its grades is
+-- its own affair.
 use Prim.Native.Nat.{ℕ, zero, suc, _+_}
 use Rattle.books.specs.Limits.{Within, inside}
 use Rattle.std.specs.declared.option.Option.{Option}

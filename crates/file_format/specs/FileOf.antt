@@ -9,7 +9,7 @@ use mathlib.Core.Bool.{Bool, true, false}
 use mathlib.Core.List.{List, [], _∷_, _++_}
 use mathlib.Core.Path.{_≡_}
 
--- the six bytes of the code of a pair
+-- the six bytes of the record of a pair
 abbrev pub grade-bytes : ℕ → ℕ → ℕ → List ℕ
 grade-bytes i j code =
     i ∷ j ∷ code % 256 ∷ code / 256 % 256 ∷ code / 65536 % 256 ∷ code / 16777216 % 256 ∷ []

@@ -17,7 +17,7 @@ use mathlib.Core.Bool.{Bool, _&&_, cond}
 use mathlib.Core.List.{List, [], _∷_}
 use mathlib.Core.Path.{_≡_}
 
--- What whoever reads expects: which kind number and sizes the record of section 1 may have, and
+-- What a reader expects: which kind number and sizes the record of section 1 may have, and
 -- which places and codes a grade record may have.
 pub record Expected : Type 0 where
   pub kind : ℕ → Bool

@@ -1,8 +1,13 @@
 // Points, two packages, two translators, and the grades (1, 1) = 700, (1, 2) = 400, (2, 1) = 650.
 use books::Book;
+use books::Reading;
 use books::Sizes;
+use file_loading::put_records;
 use grades::Points;
 use grades::PointsKind;
+use list_book::ListBook;
+use list_book::ListBookBook;
+use list_book::ListBookReading;
 use refusals::Fault;
 use refusals::Refusal;
 use refusals::RefusalDebug;
@@ -92,4 +97,18 @@ fn example_is_written() -> Result<(), Fail> {
     let mut buffer = [7u8; 27];
     check_eq(write_file::<Points, TableBook>(&book, &mut buffer), Ok(25))?;
     check(begins_with(&buffer, &EXAMPLE) && buffer[25] == 7 && buffer[26] == 7)
+}
+
+#[test]
+fn example_is_loaded() -> Result<(), Fail> {
+    let Ok(file) = check_file::<Points>(&EXAMPLE, Sizes::check(2, 2)?) else {
+        return Err(Fail::new("refused"));
+    };
+    let mut book = ListBook::new(Sizes::check(2, 2)?);
+    put_records(&file, &mut book);
+    check_eq(book.grade_of(1, 2), Some(400))?;
+    check_eq(book.grade_of(2, 2), None)?;
+    let mut buffer = [0u8; 25];
+    check_eq(write_file::<Points, ListBook>(&book, &mut buffer), Ok(25))?;
+    check(begins_with(&buffer, &EXAMPLE)).note("the same bytes")
 }

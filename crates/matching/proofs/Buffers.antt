@@ -61,7 +61,7 @@ pub marks-written :
     → ((k : ℕ) → k < p → getD after k 0 ≡ cond (seen s k) 1 0) → ((k : ℕ) → p ≤ k → getD after k 0 ≡ getD before k 0)
     → Marks p before after
 marks-written s p before after e first rest =
-    record { exact = λ k l. bit-exact (seen s k) (getD after k 0) (first k l); rest = rest-same after before p e rest }
+    record { exact = λ k l. bit-exact (seen s k) (getD after k 0) (first k l); rest = rest-same after before p e rest; long = e }
 
 pub members-written :
     (s : List Bool) (p : ℕ) (after : List ℕ) → ((k : ℕ) → k < p → getD after k 0 ≡ cond (seen s k) 1 0)

@@ -33,6 +33,7 @@ member set k = eqb (getD set k 0) 1
 pub record Marks (p : ℕ) (before after : List ℕ) : Type 0 where
   pub exact : (k : ℕ) → k < p → (getD after k 0 ≡ 0) ⊎ (getD after k 0 ≡ 1)
   pub rest : drop p after ≡ drop p before
+  pub long : length after ≡ length before
 
 abbrev pub Room : ℕ → List ℕ → List ℕ → Type 0
 Room p plan set = (p ≤ length plan) × (p ≤ length set)

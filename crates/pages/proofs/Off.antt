@@ -4,7 +4,7 @@ use Rattle.pages.proofs.Determined.{determined}
 use Rattle.pages.proofs.Skips.{page-skip}
 use Rattle.pages.specs.Answers.{Right, Lawful, Page}
 use Rattle.pages.specs.Lines.{Opening, Line, Answer, Event, Call, Outcome}
-use Rattle.pages.specs.Promises.{Alike, All-alike, lines, Refused-lines-come-off}
+use Rattle.pages.specs.Promises.{Alike, All-alike, lines, Same-lines-same-answers, Refused-lines-come-off}
 use Rattle.pages.specs.Standing.{Standing, Drawn, grade-by, grade-at, out-by, out-at, published-by, published-at, standing}
 use Rattle.std.specs.declared.option.Option.{Option}
 use mathlib.Core.List.{List, [], _∷_, _++_, map}
@@ -62,6 +62,9 @@ same-answers o (e ∷ h) (f ∷ k) a b q = joined (same-answers o h k (a .1) (b 
         let w : Alike p (e .answer) (f .answer) =
         determined o (lawful o h (a .1)) (standing p h) (e .line) (e .answer) (f .answer) (a .0) r in
         ((w, ih .0), standing-more p e f h k l w s)
+
+pub same-lines-same-answers : Same-lines-same-answers
+same-lines-same-answers o h k a b e = same-answers o h k a b e .0
 
 pub refused-lines-come-off : Refused-lines-come-off
 refused-lines-come-off o below above others e r a is b q =

@@ -13,7 +13,7 @@ use Rattle.pages.specs.Files.{Same-form}
 use Rattle.pages.specs.Lines.{Opening, Line, Answer, Event, Call, Outcome}
 use Rattle.pages.specs.Reasons.{First-reason, No-reason, slip-of}
 use Rattle.pages.specs.Standing.{Standing, Drawn, standing, grade-at, published-at}
-use Rattle.pages.specs.Told.{Refused-for-the-first-reason, Drawn-lines-have-the-best-plan, Short-lines-have-no-plan, Drawn-where-there-is-a-plan, Shown-plans-are-the-published-ones, Same-grades-same-plan}
+use Rattle.pages.specs.Told.{Refused-for-the-first-reason, Drawn-lines-have-the-best-plan, Short-lines-have-no-plan, Drawn-where-there-is-a-plan, Shows-give-the-published-plan, Other-calls-are-done, Same-grades-same-plan}
 use Rattle.refusals.specs.declared.refusal.Refusal.{Refusal}
 use Rattle.std.proofs.shelf.Tests.{both-ways}
 use Rattle.std.specs.declared.option.Option.{Option}
@@ -37,9 +37,6 @@ same-refusal r q e = cc
 
 same-code : (c d : ℕ) → Outcome.drawn c ≡ Outcome.drawn d → c ≡ d
 same-code c d e = cc
-
-same-shown : (c d : ℕ) → Outcome.shown c ≡ Outcome.shown d → c ≡ d
-same-shown c d e = cc
 
 -- on a page the codes that stand are valid, so all of them count
 all-count : (valid : ℕ → Bool) (x : Option ℕ) → ((code : ℕ) → x ≡ Some code → valid code ≡ true) → counted valid x ≡ x
@@ -119,21 +116,38 @@ drawn-where-there-is-a-plan o above e a is free = told (a .0)
     told (Right.short n c x u) = inr (x, short-lines-have-no-plan o above e a x .1 .none)
     told (Right.shown n c d q x u) = absurd (omega (arith, ap ordinal (sym is ∙ c)))
 
-pub shown-plans-are-the-published-ones : Shown-plans-are-the-published-ones
-shown-plans-are-the-published-ones o above e code a y = told (a .0)
+pub shows-give-the-published-plan : Shows-give-the-published-plan
+shows-give-the-published-plan o above e a is free = told (a .0)
   where
     told :
         Right o (standing (o .packages) above) (e .line) (e .answer)
-        → (e .line .call ≡ Call.show)
-        × ((d : Drawn) × (published-at (o .packages) above ≡ Some d) × (code ≡ d .lowest) × Showing o (e .line) (e .answer) d)
-    told (Right.refused q x f t u) = absurd (omega (arith, ap kind-of (sym x ∙ y)))
-    told (Right.done n c k x t u) = absurd (omega (arith, ap kind-of (sym x ∙ y)))
-    told (Right.drawn n c d x u) = absurd (omega (arith, ap kind-of (sym x ∙ y)))
-    told (Right.short n c x u) = absurd (omega (arith, ap kind-of (sym x ∙ y)))
-    told (Right.shown n c d q x u) = (c, (d, q, same-shown code (d .lowest) (sym y ∙ x), u))
+        → (d : Drawn) × (published-at (o .packages) above ≡ Some d) × (e .answer .outcome ≡ Outcome.shown (d .lowest))
+        × Showing o (e .line) (e .answer) d
+    told (Right.refused q x f t u) = absurd (free q x)
+    told (Right.done n c k x t u) = absurd (both-ways (says-done (e .line .call)) (ap says-done is) c)
+    told (Right.drawn n c d x u) = absurd (omega (arith, ap ordinal (sym is ∙ c)))
+    told (Right.short n c x u) = absurd (omega (arith, ap ordinal (sym is ∙ c)))
+    told (Right.shown n c d q x u) = (d, q, x, u)
 
-pub same-grades-same-plan : Same-grades-same-plan
-same-grades-same-plan o q above upper e f code other form a b same x y =
+pub other-calls-are-done : Other-calls-are-done
+other-calls-are-done o above e a is free = told (a .0)
+  where
+    told :
+        Right o (standing (o .packages) above) (e .line) (e .answer)
+        → (e .answer .outcome ≡ Outcome.done) × (e .answer .slip ≡ None) × Untouched (e .line) (e .answer)
+    told (Right.refused q x f t u) = absurd (free q x)
+    told (Right.done n c k x t u) = (x, t, u)
+    told (Right.drawn n c d x u) = absurd (both-ways (says-done (e .line .call)) (ap says-done c) is)
+    told (Right.short n c x u) = absurd (both-ways (says-done (e .line .call)) (ap says-done c) is)
+    told (Right.shown n c d q x u) = absurd (both-ways (says-done (e .line .call)) (ap says-done c) is)
+
+-- both drawn
+same-drawn :
+    (o q : Opening) (above upper : List Event) (e f : Event) (code other : ℕ) → Same-form o q → Page o (e ∷ above)
+    → Page q (f ∷ upper) → ((i j : ℕ) → grade-at above i j ≡ grade-at upper i j) → e .answer .outcome ≡ Outcome.drawn code
+    → f .answer .outcome ≡ Outcome.drawn other
+    → (take (o .packages) (e .answer .plan) ≡ take (q .packages) (f .answer .plan)) × (code ≡ other)
+same-drawn o q above upper e f code other form a b same x y =
     let u = drawn-lines-have-the-best-plan o above e code a x .1 .best in
     let v = drawn-lines-have-the-best-plan q upper f other b y .1 .best in
     let plan = take (q .packages) (f .answer .plan) in
@@ -150,3 +164,48 @@ same-grades-same-plan o q above upper e f code other form a b same x y =
     λ i j c z. standing-grades-are-of-the-kind o above (a .1) .codes i j c z .0 in
     one-best (o .valid) (o .above) (lawful o above (a .1) .order) (grade-at above) valid (o .packages) (o .translators)
     (take (o .packages) (e .answer .plan)) plan code other u w4
+
+-- a full plan on one sheet is one on the other
+same-full :
+    (o q : Opening) (g h : ℕ → ℕ → Option ℕ) (plan : List ℕ) → Same-form o q → ((i j : ℕ) → g i j ≡ h i j)
+    → FullPlan (graded g) (o .packages) (o .translators) plan → FullPlan (graded h) (q .packages) (q .translators) plan
+same-full o q g h plan form same w =
+    subst (λ (z : ℕ). FullPlan (graded h) (q .packages) z plan) (form .translators)
+    (subst (λ (z : ℕ). FullPlan (graded h) z (o .translators) plan) (form .packages)
+    (subst (λ (z : ℕ → ℕ → Option ℕ). FullPlan (graded z) (o .packages) (o .translators) plan) (λ k i j. same i j k) w))
+
+turned : (o q : Opening) → Same-form o q → Same-form q o
+turned o q f =
+    record {
+      number = sym (f .number);
+      valid = sym (f .valid);
+      above = sym (f .above);
+      packages = sym (f .packages);
+      translators = sym (f .translators);
+    }
+
+pub same-grades-same-plan : Same-grades-same-plan
+same-grades-same-plan o q above upper e f form a b same ce cf fe ff =
+    both (drawn-where-there-is-a-plan o above e a ce fe) (drawn-where-there-is-a-plan q upper f b cf ff)
+  where
+    Drawn-there : Opening → List Event → Event → Type 0
+    Drawn-there v h x =
+        (((code : ℕ) × (x .answer .outcome ≡ Outcome.drawn code))
+        × ((plan : List ℕ) × FullPlan (graded (grade-at h)) (v .packages) (v .translators) plan))
+        ⊎ ((x .answer .outcome ≡ Outcome.short) × ((plan : List ℕ) → FullPlan (graded (grade-at h)) (v .packages) (v .translators) plan → ⊥))
+
+    Alike-draws : Type 0
+    Alike-draws =
+        (e .answer .outcome ≡ f .answer .outcome)
+        × ((code : ℕ) → e .answer .outcome ≡ Outcome.drawn code
+        → take (o .packages) (e .answer .plan) ≡ take (q .packages) (f .answer .plan))
+
+    both : Drawn-there o above e → Drawn-there q upper f → Alike-draws
+    both (inl ((c, x), w)) (inl ((d, y), z)) =
+        let r = same-drawn o q above upper e f c d form a b same x y in
+        (x ∙ ap Outcome.drawn (r .1) ∙ sym y, λ code k. r .0)
+    both (inl ((c, x), w)) (inr (y, none)) =
+        absurd (none (w .0) (same-full o q (grade-at above) (grade-at upper) (w .0) form same (w .1)))
+    both (inr (x, none)) (inl ((d, y), z)) =
+        absurd (none (z .0) (same-full q o (grade-at upper) (grade-at above) (z .0) (turned o q form) (λ i j. sym (same i j)) (z .1)))
+    both (inr (x, none)) (inr (y, nil)) = (x ∙ sym y, λ code k. absurd (omega (arith, ap kind-of (sym x ∙ k))))

@@ -4,7 +4,7 @@ use Prim.Native.Nat.{ℕ}
 use Rattle.refusals.specs.declared.refusal.Refusal.{Refusal}
 use Rattle.std.specs.declared.option.Option.{Option}
 use mathlib.Core.Bool.{Bool}
-use mathlib.Core.List.{List}
+use mathlib.Core.List.{List, [], _∷_}
 
 -- Sizes, limit, kind and tag, and nothing else: two openings with these the same are the same. The
 -- kind is its number, its valid codes and their order.
@@ -55,3 +55,8 @@ pub record Answer : Type 0 where
 pub record Event : Type 0 where
   pub line : Line
   pub answer : Answer
+
+-- the history after more lines, these in the order in which they ran
+abbrev pub run-on : List Event → List Event → List Event
+run-on h [] = h
+run-on h (e ∷ es) = run-on (e ∷ h) es

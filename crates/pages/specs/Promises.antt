@@ -6,7 +6,7 @@ use Rattle.pages.specs.Lines.{Opening, Line, Answer, Event, Call, Outcome}
 use Rattle.pages.specs.Standing.{out-at}
 use Rattle.refusals.specs.declared.refusal.Refusal.{Refusal}
 use Rattle.std.specs.Options.{isSome}
-use lib.ListN.{drop}
+use lib.ListN.{drop, length}
 use mathlib.Core.Bool.{cond}
 use mathlib.Core.List.{List, [], _∷_, _++_, map}
 use mathlib.Core.Path.{_≡_}
@@ -67,8 +67,8 @@ Every-slip-is-counted =
 -- the choice of a set, the first p bytes after an accepted draw, is left out
 abbrev pub Sets-alike : ℕ → Outcome → List ℕ → List ℕ → Type 0
 Sets-alike p Outcome.done x y = x ≡ y
-Sets-alike p (Outcome.drawn code) x y = drop p x ≡ drop p y
-Sets-alike p Outcome.short x y = drop p x ≡ drop p y
+Sets-alike p (Outcome.drawn code) x y = (length x ≡ length y) × (drop p x ≡ drop p y)
+Sets-alike p Outcome.short x y = (length x ≡ length y) × (drop p x ≡ drop p y)
 Sets-alike p (Outcome.shown code) x y = x ≡ y
 Sets-alike p (Outcome.refused r) x y = x ≡ y
 
@@ -87,6 +87,11 @@ All-alike p (e ∷ h) (f ∷ k) = Alike p (e .answer) (f .answer) × All-alike p
 
 abbrev pub lines : List Event → List Line
 lines h = map (λ e. e .line) h
+
+-- two pages of one opening with the same lines are answered alike, whatever their books
+abbrev pub Same-lines-same-answers : Type 0
+Same-lines-same-answers =
+    (o : Opening) (h k : List Event) → Page o h → Page o k → lines h ≡ lines k → All-alike (o .packages) h k
 
 -- others is any page of the same opening that has the same lines but for the refused one
 abbrev pub Refused-lines-come-off : Type 0

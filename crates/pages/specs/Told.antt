@@ -2,14 +2,15 @@
 use Prim.Native.Nat.{ℕ}
 use Rattle.matching.specs.Plans.{FullPlan}
 use Rattle.bottleneck.specs.Grades.{graded}
-use Rattle.pages.specs.Answers.{Page, Drawing, Lacking, Showing, Untouched}
+use Rattle.pages.specs.Answers.{Page, Drawing, Lacking, Showing, Untouched, says-done}
 use Rattle.pages.specs.Files.{Same-form}
 use Rattle.pages.specs.Lines.{Opening, Event, Call, Outcome}
 use Rattle.pages.specs.Reasons.{First-reason, slip-of}
 use Rattle.pages.specs.Standing.{Drawn, standing, grade-at, published-at}
 use Rattle.refusals.specs.declared.refusal.Refusal.{Refusal}
-use Rattle.std.specs.declared.option.Option.the-variants.{Some}
+use Rattle.std.specs.declared.option.Option.the-variants.{Some, None}
 use lib.ListN.{take}
+use mathlib.Core.Bool.{true}
 use mathlib.Core.List.{List, _∷_}
 use mathlib.Core.Logic.{_⊎_}
 use mathlib.Core.Path.{_≡_}
@@ -46,17 +47,28 @@ Drawn-where-there-is-a-plan =
     ⊎ ((e .answer .outcome ≡ Outcome.short)
     × ((plan : List ℕ) → FullPlan (graded (grade-at above)) (o .packages) (o .translators) plan → ⊥))
 
--- shown: the plan whose slip the last accepted publish spent, with its lowest code as drawn
-abbrev pub Shown-plans-are-the-published-ones : Type 0
-Shown-plans-are-the-published-ones =
-    (o : Opening) (above : List Event) (e : Event) (code : ℕ) → Page o (e ∷ above) → e .answer .outcome ≡ Outcome.shown code
-    → (e .line .call ≡ Call.show)
-    × ((d : Drawn) × (published-at (o .packages) above ≡ Some d) × (code ≡ d .lowest) × Showing o (e .line) (e .answer) d)
+-- a show that is not refused gives the plan whose slip the last accepted publish spent, with its
+-- lowest code as drawn
+abbrev pub Shows-give-the-published-plan : Type 0
+Shows-give-the-published-plan =
+    (o : Opening) (above : List Event) (e : Event) → Page o (e ∷ above) → e .line .call ≡ Call.show
+    → ((r : Refusal) → e .answer .outcome ≡ Outcome.refused r → ⊥)
+    → (d : Drawn) × (published-at (o .packages) above ≡ Some d) × (e .answer .outcome ≡ Outcome.shown (d .lowest))
+    × Showing o (e .line) (e .answer) d
+
+-- any other call that is not refused is done: it hands out no slip and leaves its buffers as they were
+abbrev pub Other-calls-are-done : Type 0
+Other-calls-are-done =
+    (o : Opening) (above : List Event) (e : Event) → Page o (e ∷ above) → says-done (e .line .call) ≡ true
+    → ((r : Refusal) → e .answer .outcome ≡ Outcome.refused r → ⊥)
+    → (e .answer .outcome ≡ Outcome.done) × (e .answer .slip ≡ None) × Untouched (e .line) (e .answer)
 
 -- two sheets of one kind and the same sizes on which the same grades stand draw the same
 abbrev pub Same-grades-same-plan : Type 0
 Same-grades-same-plan =
-    (o q : Opening) (above upper : List Event) (e f : Event) (code other : ℕ) → Same-form o q → Page o (e ∷ above)
-    → Page q (f ∷ upper) → ((i j : ℕ) → grade-at above i j ≡ grade-at upper i j) → e .answer .outcome ≡ Outcome.drawn code
-    → f .answer .outcome ≡ Outcome.drawn other
-    → (take (o .packages) (e .answer .plan) ≡ take (q .packages) (f .answer .plan)) × (code ≡ other)
+    (o q : Opening) (above upper : List Event) (e f : Event) → Same-form o q → Page o (e ∷ above) → Page q (f ∷ upper)
+    → ((i j : ℕ) → grade-at above i j ≡ grade-at upper i j) → e .line .call ≡ Call.draw → f .line .call ≡ Call.draw
+    → ((r : Refusal) → e .answer .outcome ≡ Outcome.refused r → ⊥) → ((r : Refusal) → f .answer .outcome ≡ Outcome.refused r → ⊥)
+    → (e .answer .outcome ≡ f .answer .outcome)
+    × ((code : ℕ) → e .answer .outcome ≡ Outcome.drawn code
+    → take (o .packages) (e .answer .plan) ≡ take (q .packages) (f .answer .plan))

@@ -22,7 +22,7 @@ number-of refusal.Grade = 7
 number-of refusal.NothingThere = 8
 -- a buffer is shorter than the call needs
 number-of refusal.Space = 9
--- the bytes to load are no saved file of this sheet: the fault says why
+-- the bytes to load are no saved file of this kind and these sizes: the fault says why
 number-of (refusal.File fault) = 10
 -- a new pair meets a book at its limit, or a file has more records than the limit
 number-of refusal.Full = 11

@@ -1,4 +1,4 @@
-// Why a call is declined: eleven reasons, each with its number, and the fault that comes with a
+// Why a call is refused: eleven reasons, each with its number, and the fault that comes with a
 // file that cannot be read.
 mod fault;
 mod refusal;

@@ -1,4 +1,4 @@
-// The reasons for which a call is declined, in the order in which they are checked.
+// The reasons for which a call is refused, in the order in which they are checked.
 ghost use Rattle.refusals.specs.Refusals.{number-of};
 ghost use Rattle.refusals.specs.declared.refusal.Refusal.the-variants.{File};
 ghost use mathlib.Core.Path.{_≡_};

@@ -1,5 +1,6 @@
 mod Answered
 mod Drawing
+mod Entered
 mod Loading
 mod Pairs
 mod Showing

@@ -1,13 +1,11 @@
 -- What saving answers and leaves in the buffer; and what loading does, for the functions behind the
 -- call.
 use Prim.Native.Nat.{ℕ, _≤_, _<_}
-use Rattle.books.specs.Changes.{put-after}
 use Rattle.books.specs.Meaning.{Meaning}
 use Rattle.file_format.specs.FileOf.{grade-in}
 use Rattle.file_format.specs.Laws.{Bytes}
 use Rattle.file_format.specs.Layout.{count-in}
 use Rattle.file_format.specs.Rules.{Right, Faulty}
-use Rattle.file_format.specs.declared.records.GradeRecord.{GradeRecord}
 use Rattle.pages.specs.Lines.{Opening}
 use Rattle.pages.specs.Reasons.{may, file-expected}
 use Rattle.pages.specs.Standing.{Standing}
@@ -58,7 +56,3 @@ Loads-now o s file (Err r) q t =
 
 abbrev pub holding : Meaning → (ℕ → ℕ → Option ℕ) → Meaning
 holding m g = record { packages = m .packages; translators = m .translators; grade = g }
-
-abbrev pub put-found : ℕ → Meaning → Option GradeRecord → Meaning
-put-found limit m None = m
-put-found limit m (Some x) = put-after limit m (x .pkg) (x .translator) (x .code)

@@ -1,5 +1,6 @@
 pub mod Admission
 pub mod Draws
+pub mod Entries
 pub mod Files
 pub mod Lines
 pub mod Sheets

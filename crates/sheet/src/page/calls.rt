@@ -3,8 +3,8 @@ ghost use Prim.Native.Nat.{ℕ};
 ghost use Rattle.pages.specs.Answers.{Ran};
 ghost use Rattle.pages.specs.Files.{Standing-grades-are-of-the-kind, Saved-grades-come-back, Loaded-files-are-saved-ones};
 ghost use Rattle.pages.specs.Lines.{Opening as Opened, Event};
-ghost use Rattle.pages.specs.Promises.{Every-slip-is-counted, Refused-lines-come-off};
-ghost use Rattle.pages.specs.Told.{Refused-for-the-first-reason, Drawn-lines-have-the-best-plan, Short-lines-have-no-plan, Drawn-where-there-is-a-plan, Shown-plans-are-the-published-ones, Same-grades-same-plan};
+ghost use Rattle.pages.specs.Promises.{Every-slip-is-counted, Same-lines-same-answers, Refused-lines-come-off};
+ghost use Rattle.pages.specs.Told.{Refused-for-the-first-reason, Drawn-lines-have-the-best-plan, Short-lines-have-no-plan, Drawn-where-there-is-a-plan, Shows-give-the-published-plan, Other-calls-are-done, Same-grades-same-plan};
 ghost use Rattle.sheet.specs.Lines.{event-of, asked-of, told-of};
 ghost use Rattle.sheet.specs.Sheets.{opening-of, standing-of, Fits, Ran-line};
 ghost use mathlib.Core.List.{List, _∷_};
@@ -27,8 +27,10 @@ impl<B: Book, K: Kind> Sheet<B, K> {
         ensures drawn { λ _. ⌜ Drawn-lines-have-the-best-plan ⌝ }
         ensures short { λ _. ⌜ Short-lines-have-no-plan ⌝ }
         ensures drawn_or_short { λ _. ⌜ Drawn-where-there-is-a-plan ⌝ }
-        ensures shown { λ _. ⌜ Shown-plans-are-the-published-ones ⌝ }
+        ensures shown { λ _. ⌜ Shows-give-the-published-plan ⌝ }
+        ensures done { λ _. ⌜ Other-calls-are-done ⌝ }
         ensures counted { λ _. ⌜ Every-slip-is-counted ⌝ }
+        ensures same_answers { λ _. ⌜ Same-lines-same-answers ⌝ }
         ensures come_off { λ _. ⌜ Refused-lines-come-off ⌝ }
         ensures of_the_kind { λ _. ⌜ Standing-grades-are-of-the-kind ⌝ }
         ensures come_back { λ _. ⌜ Saved-grades-come-back ⌝ }

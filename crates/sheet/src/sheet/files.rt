@@ -6,7 +6,7 @@ ghost use Rattle.file_format.specs.Laws.{Bytes};
 ghost use Rattle.file_format.specs.Layout.{count-in};
 ghost use Rattle.file_format.specs.Rules.{just, Right};
 ghost use Rattle.pages.specs.Lines.{Call};
-ghost use Rattle.sheet.specs.Files.{save-answer, save-after, Load-gate, Loads-now, holding, put-found};
+ghost use Rattle.sheet.specs.Files.{save-answer, save-after, Load-gate, Loads-now, holding};
 ghost use Rattle.sheet.specs.Sheets.{opening-of, standing-of, file-of-sheet, Ran-line};
 ghost use Rattle.sheet.specs.Told.{asked, told-done};
 ghost use mathlib.Core.List.{List};
@@ -17,7 +17,7 @@ use super::admission::check_role;
 use books::Book;
 use books::Sizes;
 use books::is_empty;
-use file_format::GradeRecord;
+use file_loading::put_records;
 use grades::Kind;
 use refusals::FaultIntoRefusal;
 use refusals::Refusal;
@@ -65,7 +65,7 @@ impl<B: Book, K: Kind> Sheet<B, K> {
         if checked.count() > B::grade_limit() {
             return Err(Refusal::Full);
         }
-        put_records::<B, K>(&mut self.book, &checked);
+        put_file::<B, K>(&mut self.book, &checked);
         Ok(())
     }
 
@@ -85,7 +85,7 @@ impl<B: Book, K: Kind> Sheet<B, K> {
 }
 
 // Puts every record of a file that was checked for this book.
-fn put_records<B: Book, K: Kind>(book: &mut B, file: &CheckedFile<'_>)
+fn put_file<B: Book, K: Kind>(book: &mut B, file: &CheckedFile<'_>)
     requires empty { ⌜ Empty (B·Reading .meaning (now book)) ⌝ }
     requires count { ⌜ now file .count ≡ count-in (now file .file .now) ⌝ }
     requires room { ⌜ count-in (now file .file .now) ≤ limit ⌝ }
@@ -93,19 +93,5 @@ fn put_records<B: Book, K: Kind>(book: &mut B, file: &CheckedFile<'_>)
     requires right { ⌜ Right (just number valid (B·Reading .meaning (now book) .packages) (B·Reading .meaning (now book) .translators)) (now file .file .now) ⌝ }
     ensures { λ _. ⌜ B·Reading .meaning (now (book .exit)) ≡ holding (B·Reading .meaning (now (book .entry))) (grade-in (now (file .entry) .file .now)) ⌝ }
 {
-    for number in 0..file.count() {
-        put_record(book, file.record(number + 1));
-    }
-}
-
-fn put_record<B: Book>(book: &mut B, found: Option<GradeRecord>)
-    ensures { λ _. ⌜ B·Reading .meaning (now (book .exit)) ≡ put-found limit (B·Reading .meaning (now (book .entry))) found ⌝ }
-{
-    if let Some(record) = found {
-        let _ = book.put(
-            u32::from(record.pkg),
-            u32::from(record.translator),
-            record.code,
-        );
-    }
+    put_records(file, book);
 }
