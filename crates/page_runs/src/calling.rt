@@ -1,4 +1,5 @@
 // The calls of the program on its sheet. The slip that it holds goes in and out by value.
+ghost use Prim.Native.Nat.{ℕ};
 ghost use Rattle.page_runs.specs.Asks.{opening-with};
 ghost use Rattle.page_runs.specs.Live.{Live, Closed};
 ghost use Rattle.page_runs.specs.Output.{Tells};
@@ -7,7 +8,6 @@ ghost use Rattle.page_text.specs.Replies.{Told, line-of};
 ghost use Rattle.pages.specs.Lines.{Event};
 ghost use Rattle.std.specs.Of.String.{string-bytes};
 ghost use Rattle.std.specs.Vec.{made};
-ghost use Prim.Native.Nat.{ℕ};
 ghost use mathlib.Core.List.{List, _++_};
 ghost use mathlib.Core.Path.{_≡_};
 use super::step::Put;

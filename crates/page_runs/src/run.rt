@@ -1,13 +1,12 @@
 // A whole page.
+ghost use Prim.Native.Nat.{ℕ};
 ghost use Rattle.page_runs.specs.Asks.{opening-with};
 ghost use Rattle.page_runs.specs.Live.{Live};
 ghost use Rattle.page_runs.specs.Output.{Follows, Output, Rules-determine-the-output};
-ghost use Rattle.pages.specs.Lines.{Event};
 ghost use Rattle.plain_text.specs.Lines.{left-of};
 ghost use Rattle.std.specs.Of.String.{string-bytes};
 ghost use Rattle.std.specs.Vec.{made};
 ghost use Rattle.std.specs.declared.option.Option.the-variants.{None};
-ghost use Prim.Native.Nat.{ℕ};
 ghost use mathlib.Core.List.{List, [], _++_};
 ghost use mathlib.Core.Path.{_≡_};
 use super::calling::answer_command;
