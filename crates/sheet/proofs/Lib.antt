@@ -3,5 +3,6 @@ mod Drawing
 mod Entered
 mod Loading
 mod Pairs
+mod Saving
 mod Showing
 mod Spends

@@ -5,7 +5,9 @@ ghost use Rattle.file_format.specs.FileOf.{grade-in};
 ghost use Rattle.file_format.specs.Laws.{Bytes};
 ghost use Rattle.file_format.specs.Layout.{count-in};
 ghost use Rattle.file_format.specs.Rules.{just, Right};
-ghost use Rattle.pages.specs.Lines.{Call};
+ghost use Rattle.pages.specs.Answers.{Ran};
+ghost use Rattle.pages.specs.Files.{file-at};
+ghost use Rattle.pages.specs.Lines.{Opening as Opened, Call, Event};
 ghost use Rattle.sheet.specs.Files.{save-answer, save-after, Load-gate, Loads-now, holding};
 ghost use Rattle.sheet.specs.Sheets.{opening-of, standing-of, file-of-sheet, Ran-line};
 ghost use Rattle.sheet.specs.Told.{asked, told-done};
@@ -26,8 +28,17 @@ use saved_file::check_file;
 use saved_writer::write_file;
 
 impl<B: Book, K: Kind> Sheet<B, K> {
-    // Writes the file of the grades at the start of a buffer and answers its length.
+    // Writes the file of the grades at the start of a buffer and answers its length. After any page
+    // that is the file of the grades that stand there.
     pub fn save(&self, role: u32, out: &mut [u8]) -> Result<usize, Refusal>
+        ensures answer { λ r. ⌜ r ≡ save-answer role (file-of-sheet number (B·Reading .meaning) (now (self .entry))) (now (out .entry)) ⌝ }
+        ensures after { λ _. ⌜ now (out .exit) ≡ save-after role (file-of-sheet number (B·Reading .meaning) (now (self .entry))) (now (out .entry)) ⌝ }
+        ensures standing { λ _. ⌜ ((o : Opened) (h : List Event) → Ran o h (opening-of limit number valid above (B·Reading .meaning) (now (self .entry))) (standing-of (B·Reading .meaning) (now (self .entry))) → file-of-sheet number (B·Reading .meaning) (now (self .entry)) ≡ file-at o h) ⌝ }
+    {
+        self.write_grades(role, out)
+    }
+
+    fn write_grades(&self, role: u32, out: &mut [u8]) -> Result<usize, Refusal>
         ensures answer { λ r. ⌜ r ≡ save-answer role (file-of-sheet number (B·Reading .meaning) (now (self .entry))) (now (out .entry)) ⌝ }
         ensures after { λ _. ⌜ now (out .exit) ≡ save-after role (file-of-sheet number (B·Reading .meaning) (now (self .entry))) (now (out .entry)) ⌝ }
     {
