@@ -2,4 +2,6 @@
 #[cfg(test)]
 mod codes;
 #[cfg(test)]
+mod full;
+#[cfg(test)]
 mod pages;

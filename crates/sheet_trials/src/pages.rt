@@ -1,4 +1,5 @@
 // Reasons that meet in one line of a page, with a slip out and without.
+use books::Book;
 use books::Sizes;
 use grades::Points;
 use grades::PointsKind;
@@ -43,13 +44,13 @@ fn number(reply: Reply) -> u32 {
 
 // A call, how long its buffers are, and the number that it must be answered with.
 #[derive(Clone, Copy)]
-struct Trial {
+pub struct Trial {
     ask: Ask,
     places: usize,
     number: u32,
 }
 
-const fn tried(ask: Ask, places: usize, number: u32) -> Trial {
+pub const fn tried(ask: Ask, places: usize, number: u32) -> Trial {
     Trial {
         ask,
         places,
@@ -88,21 +89,28 @@ fn trials() -> [Trial; 18] {
     ]
 }
 
-#[test]
-fn reasons_that_meet_on_a_page(rt: LibcRuntime) -> Result<(), Fail> {
-    let heap = rt.alloc();
-    let trials = trials();
+// Runs the trials as one page, and holds each answer to its number.
+pub fn run_trials<B: Book>(
+    heap: Global,
+    sheet: &mut Sheet<B, Points>,
+    trials: &[Trial],
+) -> Result<(), Fail> {
     let mut page = Vec::new(heap);
     for t in trials.iter() {
         page.push(line(heap, t.ask, t.places)?)?;
     }
-    let book = TableBook::new(Sizes::check(1, 2)?);
-    let Ok(mut sheet) = Sheet::<TableBook, Points>::open(book, 1) else {
-        return Err(Fail::new("an empty book is passed"));
-    };
-    run_page(&mut sheet, &mut page);
+    run_page(sheet, &mut page);
     for (t, e) in trials.iter().zip(page.iter()) {
         check_eq(number(e.reply), t.number)?;
     }
     Ok(())
+}
+
+#[test]
+fn reasons_that_meet_on_a_page(rt: LibcRuntime) -> Result<(), Fail> {
+    let book = TableBook::new(Sizes::check(1, 2)?);
+    let Ok(mut sheet) = Sheet::<TableBook, Points>::open(book, 1) else {
+        return Err(Fail::new("an empty book is passed"));
+    };
+    run_trials(rt.alloc(), &mut sheet, &trials())
 }
