@@ -36,7 +36,7 @@ fn new_pair(role: u32, code: u32) -> Ask {
     }
 }
 
-fn trials() -> [Trial; 17] {
+fn trials() -> [Trial; 21] {
     [
         tried(new_pair(1, 5), 0, 2),
         tried(new_pair(2, 0), 0, 7),
@@ -51,9 +51,21 @@ fn trials() -> [Trial; 17] {
             0,
             6,
         ),
+        tried(Ask::Load { role: 2 }, 0, 2),
         tried(Ask::Load { role: 3 }, 0, 5),
         tried(Ask::Draw { role: 2 }, 48, 101),
         tried(new_pair(2, 5), 0, 3),
+        tried(new_pair(2, 0), 0, 3),
+        tried(
+            Ask::Grade {
+                role: 2,
+                pkg: 49,
+                translator: 1,
+                code: 5,
+            },
+            0,
+            3,
+        ),
         tried(
             Ask::Strike {
                 role: 3,
@@ -78,6 +90,7 @@ fn trials() -> [Trial; 17] {
         tried(Ask::Draw { role: 3 }, 47, 3),
         tried(Ask::Publish { role: 2, tag: 9 }, 0, 2),
         tried(Ask::Withdraw { role: 1, tag: 1 }, 0, 2),
+        tried(Ask::Withdraw { role: 1, tag: 9 }, 0, 2),
         tried(Ask::Show { role: 4 }, 0, 2),
         tried(Ask::Withdraw { role: 2, tag: 1 }, 0, 100),
     ]
@@ -101,6 +114,8 @@ fn a_file_over_the_limit(rt: LibcRuntime) -> Result<(), Fail> {
     };
     graded(&mut large, 1025)?;
     let mut file = vec![in rt.alloc(); 0u8; 6157]?;
+    check_eq(large.save(0, &mut []), Err(Refusal::Role)).note("the role before the room")?;
+    check_eq(large.save(1, &mut []), Err(Refusal::Space))?;
     check_eq(large.save(1, &mut file), Ok(6157)).note("seven bytes, and six for each grade")?;
     let book = ListBook::new(Sizes::check(48, 64)?);
     let Ok(mut sheet) = Sheet::<ListBook, Points>::open(book, 1) else {
