@@ -60,7 +60,7 @@ says-done (Call.publish tag) = true
 says-done (Call.withdraw tag) = true
 says-done Call.show = false
 
--- a file is a string of bytes
+-- a file is a string of bytes, as every file that a program is lent is: no condition of acceptance
 abbrev pub Given : Call → Type 0
 Given (Call.grade a b code) = Unit {0}
 Given (Call.strike a b) = Unit {0}

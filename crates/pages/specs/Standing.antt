@@ -48,7 +48,7 @@ abbrev pub grade-at : List Event → ℕ → ℕ → Option ℕ
 grade-at [] i j = None
 grade-at (e ∷ above) i j = grade-by (e .answer .outcome) (e .line .call) i j (grade-at above i j)
 
--- whether an accepted call spends the slip
+-- the drawn plan that an accepted call leaves out: none where it spends the slip
 abbrev pub out-by-done : Call → Option Drawn → Option Drawn
 out-by-done (Call.grade a b code) old = old
 out-by-done (Call.strike a b) old = old
