@@ -40,7 +40,7 @@ fn release(pkg: u8, owner: &mut [u8; 64])
 
 // Gives a package the first translator that it can have while those before it keep theirs.
 fn place_first<P: Pattern>(pattern: &P, pkg: u8, owner: &mut [u8; 64])
-    ensures { (p : ℕ) → 0 < pkg → pkg ≤ p → Complete (joins pattern.now) p (translators pattern.now) owner.old → PlacedFirst (joins pattern.now) p (translators pattern.now) pkg owner.old owner.new }
+    ensures { (p : ℕ) → 0 < pkg → pkg ≤ p → Complete (P.joins pattern.now) p (P.translators pattern.now) owner.old → PlacedFirst (P.joins pattern.now) p (P.translators pattern.now) pkg owner.old owner.new }
 {
     let mut visited = marks_before(pkg, owner);
     release(pkg, owner);
@@ -49,8 +49,8 @@ fn place_first<P: Pattern>(pattern: &P, pkg: u8, owner: &mut [u8; 64])
 
 // The first matching by translator numbers, package by package, from any whole matching.
 pub fn place_all_first<P: Pattern>(pattern: &P, packages: u8, owner: &mut [u8; 64])
-    ensures complete { Complete (joins pattern.now) packages (translators pattern.now) owner.old → Complete (joins pattern.now) packages (translators pattern.now) owner.new }
-    ensures least { Complete (joins pattern.now) packages (translators pattern.now) owner.old → (k : ℕ) → k < packages → Least (joins pattern.now) packages (translators pattern.now) owner.new k }
+    ensures complete { Complete (P.joins pattern.now) packages (P.translators pattern.now) owner.old → Complete (P.joins pattern.now) packages (P.translators pattern.now) owner.new }
+    ensures least { Complete (P.joins pattern.now) packages (P.translators pattern.now) owner.old → (k : ℕ) → k < packages → Least (P.joins pattern.now) packages (P.translators pattern.now) owner.new k }
 {
     for i in 0..packages {
         place_first(pattern, i + 1, owner);

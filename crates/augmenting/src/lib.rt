@@ -1,5 +1,7 @@
 // Matching by augmenting paths: each package a translator of its own, in any pattern of pairs that
 // may be matched.
+#![tactic(auto)]
+
 mod firsts;
 mod members;
 mod paths;

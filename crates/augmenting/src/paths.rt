@@ -14,11 +14,11 @@ pub fn augment<P: Pattern>(
     visited: &mut [bool; 64],
 ) -> bool
     ensures kept { Kept visited.old owner.old owner.new }
-    ensures found { result ≡ true → 0 < pkg → Matching (joins pattern.now) (translators pattern.now) owner.old → Free owner.old pkg → Augmented (joins pattern.now) (translators pattern.now) visited.old pkg owner.old owner.new }
+    ensures found { result ≡ true → 0 < pkg → Matching (P.joins pattern.now) (P.translators pattern.now) owner.old → Free owner.old pkg → Augmented (P.joins pattern.now) (P.translators pattern.now) visited.old pkg owner.old owner.new }
     ensures same { result ≡ false → owner.new ≡ owner.old }
-    ensures closed { result ≡ false → Closed (joins pattern.now) (translators pattern.now) owner.old visited.old visited.new }
-    ensures needed { result ≡ false → Needed (joins pattern.now) (translators pattern.now) pkg owner.old visited.old visited.new }
-    ensures tried { result ≡ false → Tried (joins pattern.now) pkg visited.new (translators pattern.now) }
+    ensures closed { result ≡ false → Closed (P.joins pattern.now) (P.translators pattern.now) owner.old visited.old visited.new }
+    ensures needed { result ≡ false → Needed (P.joins pattern.now) (P.translators pattern.now) pkg owner.old visited.old visited.new }
+    ensures tried { result ≡ false → Tried (P.joins pattern.now) pkg visited.new (P.translators pattern.now) }
 {
     for j in 0..pattern.translator_count() {
         let place = j as usize;

@@ -8,7 +8,7 @@ use refusals::Refusal;
 
 // How many grades stand in the row of one package.
 fn grades_of_package<R: Reading>(book: &R, pkg: u32) -> u16
-    ensures count { result ≡ in_row ((meaning book.now).grade pkg) (meaning book.now).translators }
+    ensures count { result ≡ in_row ((R.meaning book.now).grade pkg) (R.meaning book.now).translators }
     ensures bound { result ≤ 64 }
 {
     let mut n = 0;
@@ -22,7 +22,7 @@ fn grades_of_package<R: Reading>(book: &R, pkg: u32) -> u16
 
 // How many grades stand in a book.
 pub fn standing_grades<R: Reading>(book: &R) -> u16
-    ensures { result ≡ count (meaning book.now) }
+    ensures { result ≡ count (R.meaning book.now) }
 {
     let mut n = 0;
     for pkg in 0..u32::from(book.packages()) {
@@ -32,7 +32,7 @@ pub fn standing_grades<R: Reading>(book: &R) -> u16
 }
 
 pub fn is_empty<R: Reading>(book: &R) -> bool
-    ensures { MatchBool result (Empty (meaning book.now)) (Empty (meaning book.now) → ⊥) }
+    ensures { MatchBool result (Empty (R.meaning book.now)) (Empty (R.meaning book.now) → ⊥) }
 {
     standing_grades(book) == 0
 }

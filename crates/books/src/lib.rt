@@ -1,4 +1,6 @@
 // Books: what keeps the grades of pairs of a package and a translator.
+#![tactic(auto)]
+
 mod book;
 mod counting;
 mod reading;

@@ -30,7 +30,7 @@ fn no_owners() -> [u8; 64]
 
 // Of the grades that are valid in the kind.
 pub fn best_matching<R: Reading, K: Kind>(grades: &R) -> Best
-    ensures { Found valid above (valid_grades valid (meaning grades.now)) (meaning grades.now).packages (meaning grades.now).translators result }
+    ensures { Found K.valid K.above (valid_grades K.valid (R.meaning grades.now)) (R.meaning grades.now).packages (R.meaning grades.now).translators result }
 {
     let mut table = Table::<K>::read(grades);
     let mut owner = no_owners();

@@ -22,15 +22,15 @@ fn lower<K: Kind>(
     owner: &[u8; 64],
     visited: &[bool; 64],
 ) -> Result<Members, Members>
-    requires grades { AllValid valid (table_grades table.old.codes) }
-    requires floor { Valid valid table.old.floor }
+    requires grades { AllValid K.valid (table_grades table.old.codes) }
+    requires floor { Valid K.valid table.old.floor }
     requires within { (0 < pkg) × (pkg ≤ table.old.packages) }
-    requires before { PlacedBefore (at_floor above table.old.codes table.old.floor) table.old.translators pkg owner.now }
-    requires left { IsLeftOver (at_floor above table.old.codes table.old.floor) table.old.translators pkg owner.now visited.now }
+    requires before { PlacedBefore (at_floor K.above table.old.codes table.old.floor) table.old.translators pkg owner.now }
+    requires left { IsLeftOver (at_floor K.above table.old.codes table.old.floor) table.old.translators pkg owner.now visited.now }
     ensures codes { table.new.codes ≡ table.old.codes }
     ensures packages { table.new.packages ≡ table.old.packages }
     ensures translators { table.new.translators ≡ table.old.translators }
-    ensures set { MatchResult result (λ tight. Lowered valid above table.old.codes table.old.packages table.old.translators table.old.floor table.new.floor tight.places) (λ short. OneFewer (graded (table_grades table.old.codes)) table.old.packages table.old.translators (seen short.places)) }
+    ensures set { MatchResult result (λ tight. Lowered K.valid K.above table.old.codes table.old.packages table.old.translators table.old.floor table.new.floor tight.places) (λ short. OneFewer (graded (table_grades table.old.codes)) table.old.packages table.old.translators (seen short.places)) }
 {
     let set = Members::owners_and(pkg, owner, visited);
     match highest(table, &set, visited) {
@@ -48,13 +48,13 @@ pub(crate) fn match_all<K: Kind>(
     table: &mut Table<K>,
     owner: &mut [u8; 64],
 ) -> Result<Members, Members>
-    requires grades { AllValid valid (table_grades table.old.codes) }
+    requires grades { AllValid K.valid (table_grades table.old.codes) }
     requires floor { table.old.floor ≡ None }
     requires free { (j : ℕ) → slice_index owner.old j ≡ 0 }
     ensures codes { table.new.codes ≡ table.old.codes }
     ensures packages { table.new.packages ≡ table.old.packages }
     ensures translators { table.new.translators ≡ table.old.translators }
-    ensures set { MatchResult result (λ tight. TightAt valid above (table_grades table.old.codes) table.old.packages table.old.translators table.new.floor tight.places × Complete (at_floor above table.old.codes table.new.floor) table.old.packages table.old.translators owner.new) (λ short. OneFewer (graded (table_grades table.old.codes)) table.old.packages table.old.translators (seen short.places)) }
+    ensures set { MatchResult result (λ tight. TightAt K.valid K.above (table_grades table.old.codes) table.old.packages table.old.translators table.new.floor tight.places × Complete (at_floor K.above table.old.codes table.new.floor) table.old.packages table.old.translators owner.new) (λ short. OneFewer (graded (table_grades table.old.codes)) table.old.packages table.old.translators (seen short.places)) }
 {
     let mut tight = Members::none();
     let mut pkg = 1;

@@ -11,7 +11,7 @@ use grades::Kind;
 
 // The higher of a code, if there is one, and the best so far.
 fn higher_of<K: Kind>(code: u32, best: Option<u32>) -> Option<u32>
-    ensures { result ≡ (if not (code == 0) && higher above code best then Some code else best) }
+    ensures { result ≡ (if not (code == 0) && higher K.above code best then Some code else best) }
 {
     match best {
         _ if code == 0 => best,
@@ -26,9 +26,9 @@ fn highest_in_row<K: Kind>(
     visited: &[bool; 64],
     before: Option<u32>,
 ) -> Option<u32>
-    requires valid { AllValid valid (table_grades table.now.codes) }
-    requires right { Valid valid before }
-    ensures best { HighestInRow valid above (table_grades table.now.codes) table.now.translators pkg visited.now before result }
+    requires valid { AllValid K.valid (table_grades table.now.codes) }
+    requires right { Valid K.valid before }
+    ensures best { HighestInRow K.valid K.above (table_grades table.now.codes) table.now.translators pkg visited.now before result }
     ensures from { (code : ℕ) → result ≡ Some code → (before ≡ Some code) ⊎ ((j : ℕ) × (j < table.now.translators) × (seen visited.now j ≡ false) × (table_grades table.now.codes pkg (j + 1) ≡ Some code)) }
 {
     let mut best = before;
@@ -41,8 +41,8 @@ fn highest_in_row<K: Kind>(
 }
 
 pub(crate) fn highest<K: Kind>(table: &Table<K>, set: &Members, visited: &[bool; 64]) -> Option<u32>
-    requires { AllValid valid (table_grades table.now.codes) }
-    ensures { Highest above (table_grades table.now.codes) table.now.packages table.now.translators set.now.places visited.now result }
+    requires { AllValid K.valid (table_grades table.now.codes) }
+    ensures { Highest K.above (table_grades table.now.codes) table.now.packages table.now.translators set.now.places visited.now result }
 {
     let mut best = None;
     for k in 0..table.packages {

@@ -1,4 +1,6 @@
 // The bottleneck: the highest lowest grade of any plan, and the first plan that has it.
+#![tactic(auto)]
+
 mod best;
 mod floors;
 mod leads;

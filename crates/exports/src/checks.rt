@@ -6,7 +6,7 @@ use grades::Kind;
 
 // Whether each code is 0 or valid.
 fn codes_are_right<K: Kind>(codes: &[u32]) -> bool
-    ensures { result ≡ codes_right valid codes.now }
+    ensures { result ≡ codes_right K.valid codes.now }
 {
     for code in codes {
         if *code != 0 && !K::is_valid(*code) {
@@ -18,7 +18,7 @@ fn codes_are_right<K: Kind>(codes: &[u32]) -> bool
 
 // Whether the first codes are, or as many of them as are there.
 pub(crate) fn first_are_right<K: Kind>(most: usize, codes: &[u32]) -> bool
-    ensures { result ≡ codes_right valid (take most codes.now) }
+    ensures { result ≡ codes_right K.valid (take most codes.now) }
 {
     codes_are_right::<K>(&codes[0..most.min(codes.len())])
 }

@@ -1,5 +1,7 @@
 // The planning sheet for programs in other languages: two functions of numbers and slices, which
 // keep no state.
+#![tactic(auto)]
+
 ghost use Rattle.std.specs.Prelude.{◌*◌, take};
 ghost use Rattle.exports.specs.Kinds.{above_in, right_in};
 ghost use Rattle.exports.specs.Paging.{PagedAs};

@@ -19,7 +19,7 @@ fn plan_in<K: Kind>(
     set: &mut [u8],
     lowest: &mut u32,
 ) -> Result<Reply, Failure>
-    ensures { PlannedAs above (codes_right valid (take (sizes.packages * sizes.translators) codes.now)) sizes.packages sizes.translators codes.now (record { plan = plan.entry.now; set = set.old; lowest = lowest.old }) (record { plan = plan.exit.now; set = set.new; lowest = lowest.new }) result }
+    ensures { PlannedAs K.above (codes_right K.valid (take (sizes.packages * sizes.translators) codes.now)) sizes.packages sizes.translators codes.now (record { plan = plan.entry.now; set = set.old; lowest = lowest.old }) (record { plan = plan.exit.now; set = set.new; lowest = lowest.new }) result }
 {
     let pairs = pairs_of(sizes);
     // a wrong code is told before a table that is too short

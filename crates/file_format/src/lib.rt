@@ -1,4 +1,6 @@
 // The saved file of a sheet: its records, its bytes and its rules, and what holds of every file.
+#![tactic(auto)]
+
 mod laws;
 mod records;
 

@@ -1,4 +1,6 @@
 // Putting the records of a checked file into a book.
+#![tactic(auto)]
+
 ghost use Rattle.file_loading.specs.Loaded.{RecordsAreTheGrades, with_record, with_records};
 ghost use Rattle.std.specs.Prelude.{◌≡◌, ◌&&◌, leb, if◌then◌else◌, nat_le};
 
@@ -7,7 +9,7 @@ use saved_file::CheckedFile;
 
 // One record, if the file has it.
 fn put_record<B: Book>(file: &CheckedFile<'_>, number: u16, book: &mut B)
-    ensures { B.Reading.meaning book.new ≡ (if leb 1 number && nat_le number file.now.count then with_record limit (B.Reading.meaning book.old) file.now.file.now number else B.Reading.meaning book.old) }
+    ensures { B.Reading.meaning book.new ≡ (if leb 1 number && nat_le number file.now.count then with_record B.limit (B.Reading.meaning book.old) file.now.file.now number else B.Reading.meaning book.old) }
 {
     if let Some(found) = file.record(number) {
         let _ = book.put(
@@ -20,7 +22,7 @@ fn put_record<B: Book>(file: &CheckedFile<'_>, number: u16, book: &mut B)
 
 // All records, in the order of the file.
 pub fn put_records<B: Book>(file: &CheckedFile<'_>, book: &mut B)
-    ensures after { B.Reading.meaning book.new ≡ with_records limit (B.Reading.meaning book.old) file.now.file.now file.now.count }
+    ensures after { B.Reading.meaning book.new ≡ with_records B.limit (B.Reading.meaning book.old) file.now.file.now file.now.count }
     ensures grades { RecordsAreTheGrades }
 {
     for done in 0..file.count() {

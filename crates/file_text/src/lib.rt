@@ -1,4 +1,6 @@
 // What is told of a saved file in words: its fault, or its kind and sizes.
+#![tactic(auto)]
+
 mod fault;
 mod head;
 

@@ -1,4 +1,6 @@
 // Saved files and their faults, run through the public calls.
+#![tactic(auto)]
+
 #[cfg(test)]
 mod example;
 #[cfg(test)]

@@ -1,4 +1,6 @@
 // Kinds of grade: which 32-bit codes are grades, and which of two grades is above the other.
+#![tactic(auto)]
+
 ghost use Rattle.std.specs.Prelude.{◌≡◌, ℕ, ◌≤◌, Bool};
 ghost use Rattle.grades.specs.Order.{Order};
 

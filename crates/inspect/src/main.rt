@@ -1,5 +1,7 @@
 // Reads a saved file from standard input and prints its kind, its sizes and its grades, or what is
 // wrong with it and where.
+#![tactic(auto)]
+
 mod report;
 
 use report::{print_fault, print_file};

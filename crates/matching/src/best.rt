@@ -24,7 +24,7 @@ pub enum Matched {
 // that shows that none has a higher one; or a set that shows that there is no full plan. A code
 // that is not valid in the kind counts as no grade.
 pub fn best_plan<R: Reading, K: Kind>(grades: &R) -> Matched
-    ensures { Right above (valid_grades valid (meaning grades.now)) (meaning grades.now).packages (meaning grades.now).translators result }
+    ensures { Right K.above (valid_grades K.valid (R.meaning grades.now)) (R.meaning grades.now).packages (R.meaning grades.now).translators result }
 {
     match best_matching::<R, K>(grades) {
         Best::Matched {

@@ -34,7 +34,7 @@ pub fn match_into<R: Reading, K: Kind>(
     plan: &mut [u16],
     set: &mut [u8],
 ) -> Result<Answer, Refusal>
-    ensures { Answered above (valid_grades valid (meaning grades.now)) (meaning grades.now).packages (meaning grades.now).translators plan.old set.old plan.new set.new result }
+    ensures { Answered K.above (valid_grades K.valid (R.meaning grades.now)) (R.meaning grades.now).packages (R.meaning grades.now).translators plan.old set.old plan.new set.new result }
 {
     let packages = grades.packages();
     let room = plan.len().min(set.len());

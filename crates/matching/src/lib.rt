@@ -1,5 +1,7 @@
 // Matching packages with translators: the first plan with the highest lowest grade, or a set of
 // packages that shows why there is none.
+#![tactic(auto)]
+
 mod best;
 mod into;
 mod plan;

@@ -1,4 +1,6 @@
 // Worked sheets, matched through the public call.
+#![tactic(auto)]
+
 #[cfg(test)]
 mod sets;
 #[cfg(test)]

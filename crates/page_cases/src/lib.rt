@@ -1,4 +1,6 @@
 // Pages in text, run from input to output.
+#![tactic(auto)]
+
 #[cfg(test)]
 mod lengths;
 #[cfg(test)]

@@ -1,5 +1,7 @@
 // What the definitions of a page say of its lines, each in a few words that anybody can hold against
 // the rules: each function's contract is a set of facts that a wrong definition would break.
+#![tactic(auto)]
+
 ghost use Rattle.page_facts.specs.Accepted.{GoodDraws, GoodGrades, GoodLoads, GoodShows, GoodSlips, GoodStrikes};
 ghost use Rattle.page_facts.specs.Alike.{AlikeAnswersAgree, AlikeLineByLine, Equivalence};
 ghost use Rattle.page_facts.specs.Buffers.{DrawnLinesInWords, LaterPlacesNeverChange, ShortLinesInWords, WritesLittle};

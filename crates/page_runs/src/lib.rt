@@ -1,4 +1,6 @@
 // A page in text, from the bytes of the input to the bytes of the output.
+#![tactic(auto)]
+
 mod calling;
 mod run;
 mod step;

@@ -1,4 +1,6 @@
 // The text form of a page: a line of input as a command, and an answer as a line of output.
+#![tactic(auto)]
+
 mod command;
 mod reply;
 mod words;

@@ -1,4 +1,6 @@
 // Pages of calls on a sheet, as plain data, and what holds over every page.
+#![tactic(auto)]
+
 ghost use Rattle.pages.specs.Files.{StandingGradesAreOfTheKind, SavedGradesComeBack, LoadedFilesAreSavedOnes};
 ghost use Rattle.pages.specs.Promises.{EverySlipIsCounted, SameLinesSameAnswers, RefusedLinesComeOff};
 ghost use Rattle.pages.specs.Told.{RefusedForTheFirstReason, DrawnLinesHaveTheBestPlan, ShortLinesHaveNoPlan, DrawnWhereThereIsAPlan, ShowsGiveThePublishedPlan, OtherCallsAreDone, SameGradesSamePlan};

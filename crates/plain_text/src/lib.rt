@@ -1,4 +1,6 @@
 // Lines, words and numbers of a text given as bytes.
+#![tactic(auto)]
+
 mod lines;
 mod numbers;
 mod pieces;

@@ -1,5 +1,7 @@
 // What the definitions of plans and sets say of sheets whose answer anybody can tell: each
 // function's contract is a fact that a wrong definition would break.
+#![tactic(auto)]
+
 ghost use Rattle.plan_facts.specs.Codes.{PointsInWords, RatingsInWords};
 ghost use Rattle.plan_facts.specs.Even.{EvenSheetsCountUp, ShortEvenSheets, TightSetsOfEvenSheets};
 ghost use Rattle.plan_facts.specs.Plans.{BestPlanOrNone, HigherGradesNeverLowerTheBottleneck, LowestGradeIsBelowTheOthers, OneLowestGrade, PlansNameTranslators, TooFewTranslators};

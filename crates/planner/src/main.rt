@@ -1,4 +1,6 @@
 // Runs a page: reads its lines from standard input and prints an answer to each.
+#![tactic(auto)]
+
 use page_runs::answers;
 use std::io::Read;
 

@@ -1,5 +1,7 @@
 // Reads the sizes of a book and the points of translators for packages from standard input, and
 // prints for each package its translators from the highest grade down.
+#![tactic(auto)]
+
 mod input;
 mod output;
 mod problem;

@@ -1,5 +1,7 @@
 // Reads a saved file from standard input and prints the plan for it as a manager reads it, or what is
 // wrong with the file.
+#![tactic(auto)]
+
 use plan_report::report;
 use std::io;
 use std::io::Read;

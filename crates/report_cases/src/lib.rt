@@ -1,3 +1,5 @@
 // Files of worked sheets and their reports.
+#![tactic(auto)]
+
 #[cfg(test)]
 mod files;

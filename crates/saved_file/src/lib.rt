@@ -1,4 +1,6 @@
 // The reader of a saved file: the grades in it, or what is wrong with it and where.
+#![tactic(auto)]
+
 mod checked;
 mod cursor;
 mod head;

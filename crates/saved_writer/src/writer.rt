@@ -39,10 +39,10 @@ fn write_head(out: &mut [u8], kind: u8, packages: u8, translators: u8, count: u1
 
 // The record of one pair, if it has a grade; answers where it ends.
 fn write_pair<R: Reading>(book: &R, pkg: u8, translator: u8, out: &mut [u8], at: usize) -> usize
-    requires { at + 6 * one ((meaning book.now).grade pkg translator) ≤ length out.old }
-    ensures ends { result ≡ at + 6 * one ((meaning book.now).grade pkg translator) }
-    ensures after { out.new ≡ put_at out.old at (of_grade pkg translator ((meaning book.now).grade pkg translator)) }
-    ensures code { CodeFits ((meaning book.now).grade pkg translator) }
+    requires { at + 6 * one ((R.meaning book.now).grade pkg translator) ≤ length out.old }
+    ensures ends { result ≡ at + 6 * one ((R.meaning book.now).grade pkg translator) }
+    ensures after { out.new ≡ put_at out.old at (of_grade pkg translator ((R.meaning book.now).grade pkg translator)) }
+    ensures code { CodeFits ((R.meaning book.now).grade pkg translator) }
 {
     match book.grade_of(u32::from(pkg), u32::from(translator)) {
         Some(code) => {
@@ -55,10 +55,10 @@ fn write_pair<R: Reading>(book: &R, pkg: u8, translator: u8, out: &mut [u8], at:
 
 // The records of one package; answers where they end.
 fn write_row<R: Reading>(book: &R, pkg: u8, out: &mut [u8], at: usize) -> usize
-    requires { at + 6 * in_row ((meaning book.now).grade pkg) (meaning book.now).translators ≤ length out.old }
-    ensures ends { result ≡ at + 6 * in_row ((meaning book.now).grade pkg) (meaning book.now).translators }
-    ensures after { out.new ≡ put_at out.old at (row_bytes pkg ((meaning book.now).grade pkg) (meaning book.now).translators) }
-    ensures codes { RowFits ((meaning book.now).grade pkg) (meaning book.now).translators }
+    requires { at + 6 * in_row ((R.meaning book.now).grade pkg) (R.meaning book.now).translators ≤ length out.old }
+    ensures ends { result ≡ at + 6 * in_row ((R.meaning book.now).grade pkg) (R.meaning book.now).translators }
+    ensures after { out.new ≡ put_at out.old at (row_bytes pkg ((R.meaning book.now).grade pkg) (R.meaning book.now).translators) }
+    ensures codes { RowFits ((R.meaning book.now).grade pkg) (R.meaning book.now).translators }
 {
     let mut end = at;
     for translator in 0..book.translators() {
@@ -69,9 +69,9 @@ fn write_row<R: Reading>(book: &R, pkg: u8, out: &mut [u8], at: usize) -> usize
 
 // The records of all packages, after the head.
 fn write_rows<R: Reading>(book: &R, out: &mut [u8])
-    requires { 7 + 6 * count (meaning book.now) ≤ length out.old }
-    ensures after { out.new ≡ put_at out.old 7 (grades_bytes (meaning book.now).grade (meaning book.now).packages (meaning book.now).translators) }
-    ensures codes { CodesFit (meaning book.now).grade (meaning book.now).packages (meaning book.now).translators }
+    requires { 7 + 6 * count (R.meaning book.now) ≤ length out.old }
+    ensures after { out.new ≡ put_at out.old 7 (grades_bytes (R.meaning book.now).grade (R.meaning book.now).packages (R.meaning book.now).translators) }
+    ensures codes { CodesFit (R.meaning book.now).grade (R.meaning book.now).packages (R.meaning book.now).translators }
 {
     let mut at = 7;
     for pkg in 0..book.packages() {
@@ -81,9 +81,9 @@ fn write_rows<R: Reading>(book: &R, out: &mut [u8])
 
 // Writes the file at the start of a buffer and answers its length.
 pub fn write_file<K: Kind, R: Reading>(book: &R, out: &mut [u8]) -> Result<usize, Refusal>
-    ensures answer { result ≡ write_answer (file_of_meaning number (meaning book.now)) out.old }
-    ensures after { out.new ≡ write_after (file_of_meaning number (meaning book.now)) out.old }
-    ensures read_back { OnOk result (ReadsBack number valid (meaning book.now)) }
+    ensures answer { result ≡ write_answer (file_of_meaning K.number (R.meaning book.now)) out.old }
+    ensures after { out.new ≡ write_after (file_of_meaning K.number (R.meaning book.now)) out.old }
+    ensures read_back { OnOk result (ReadsBack K.number K.valid (R.meaning book.now)) }
 {
     let count = standing_grades(book);
     let length = 7 + 6 * usize::from(count);

@@ -1,5 +1,7 @@
 // The planning sheet: grades, drawn and published plans, and the calls of readers, editors and
 // managers.
+#![tactic(auto)]
+
 mod entries;
 mod page;
 mod sheet;

@@ -1,4 +1,6 @@
 // The sheet's own calls at the edges of the rules.
+#![tactic(auto)]
+
 #[cfg(test)]
 mod codes;
 #[cfg(test)]

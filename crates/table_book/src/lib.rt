@@ -1,4 +1,6 @@
 // The table book: one cell for each of 48 × 64 pairs.
+#![tactic(auto)]
+
 mod cells;
 mod table_book;
 

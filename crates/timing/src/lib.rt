@@ -1,4 +1,6 @@
 // The whole plan of a table of codes, over each of the two books, for a caller that takes its time.
+#![tactic(auto)]
+
 mod exports;
 mod filling;
 mod runs;

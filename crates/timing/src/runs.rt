@@ -14,7 +14,7 @@ pub fn plan_again<R: Reading, K: Kind>(
     plan: &mut [u16],
     set: &mut [u8],
 ) -> Result<Answer, Refusal>
-    ensures { Answered above (valid_grades valid (meaning grades.now)) (meaning grades.now).packages (meaning grades.now).translators plan.old set.old plan.new set.new result }
+    ensures { Answered K.above (valid_grades K.valid (R.meaning grades.now)) (R.meaning grades.now).packages (R.meaning grades.now).translators plan.old set.old plan.new set.new result }
 {
     let mut answer = match_into::<R, K>(grades, plan, set);
     for _ in 1..repeats {

@@ -1,4 +1,6 @@
 // Worked examples, run through the public calls.
+#![tactic(auto)]
+
 #[cfg(test)]
 mod books;
 #[cfg(test)]

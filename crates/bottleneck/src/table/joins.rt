@@ -25,7 +25,7 @@ impl<K> Table<K> {
 }
 
 impl<K: Kind> Pattern for Table<K> {
-    ghost joins = { λ s k j. from_floor K.Kind.above s.floor (table_grades s.codes k j) };
+    ghost joins = { λ s k j. from_floor K.above s.floor (table_grades s.codes k j) };
 
     ghost translators = { λ s. s.translators };
 

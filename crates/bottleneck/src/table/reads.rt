@@ -10,7 +10,7 @@ use std::marker::PhantomData;
 
 // The code of a pair, or 0 where it has none that is valid in the kind.
 fn valid_code<R: Reading, K: Kind>(grades: &R, pkg: u8, translator: u8) -> u32
-    ensures { grade_of_code result ≡ valid_grades valid (meaning grades.now) pkg translator }
+    ensures { grade_of_code result ≡ valid_grades K.valid (R.meaning grades.now) pkg translator }
 {
     match grades.grade_of(u32::from(pkg), u32::from(translator)) {
         Some(code) if K::is_valid(code) => code,
@@ -22,7 +22,7 @@ fn valid_code<R: Reading, K: Kind>(grades: &R, pkg: u8, translator: u8) -> u32
 fn read_row<R: Reading, K: Kind>(grades: &R, pkg: u8, codes: &mut [u32; 3185])
     requires within { pkg ≤ 48 }
     requires empty { (x : ℕ) → 65 * pkg ≤ x → slice_index codes.old x ≡ 0 }
-    ensures row { (j : ℕ) → j ≤ 64 → grade_of_code (slice_index codes.new (65 * pkg + j)) ≡ valid_grades valid (meaning grades.now) pkg j }
+    ensures row { (j : ℕ) → j ≤ 64 → grade_of_code (slice_index codes.new (65 * pkg + j)) ≡ valid_grades K.valid (R.meaning grades.now) pkg j }
     ensures before { (x : ℕ) → x < 65 * pkg → slice_index codes.new x ≡ slice_index codes.old x }
     ensures after { (x : ℕ) → 65 * pkg + 64 < x → slice_index codes.new x ≡ 0 }
 {
@@ -40,9 +40,9 @@ fn no_codes() -> [u32; 3185]
 impl<K: Kind> Table<K> {
     // The valid grades of a book, and no floor yet.
     pub fn read<R: Reading>(grades: &R) -> Table<K>
-        ensures sizes { (result.packages ≡ (meaning grades.now).packages) × (result.translators ≡ (meaning grades.now).translators) }
+        ensures sizes { (result.packages ≡ (R.meaning grades.now).packages) × (result.translators ≡ (R.meaning grades.now).translators) }
         ensures floor { result.floor ≡ None }
-        ensures grades { (k j : ℕ) → table_grades result.codes k j ≡ valid_grades valid (meaning grades.now) k j }
+        ensures grades { (k j : ℕ) → table_grades result.codes k j ≡ valid_grades K.valid (R.meaning grades.now) k j }
     {
         let packages = grades.packages();
         let translators = grades.translators();

@@ -12,7 +12,7 @@ loop-done-preserved g c =
     let l : c.loop-done.done < c.args.file.now.count = omega (arith, c.count-done-end.ensures) in
     one_step g.B.Book.limit (g.B.Reading.meaning c.args.book.now) c.args.file.now.file.now
     c.loop-done.done c.args.file.now.count (g.B.Reading.meaning c.loop-done.book)
-    (g.B.Reading.meaning c.put-record.new.book) c.loop-done.invariant l c.put-record.ensures
+    (g.B.Reading.meaning c.put_record.new.book) c.loop-done.invariant l c.put_record.ensures
 
 pub returns : goal.returns
 returns g c =

@@ -4,8 +4,8 @@ use Rattle.page_facts.proofs.reasons_in_order.Goals as goal
 pub returns : goal.returns
 returns c =
     record {
-      slip-out = slip_out_first;
-      wrong-slip = wrong_slips;
+      slip_out = slip_out_first;
+      wrong_slip = wrong_slips;
       grade = grade_lines_in_order;
       strike = strikes_in_order;
       load = loads_in_order;

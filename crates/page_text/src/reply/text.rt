@@ -8,7 +8,7 @@ use super::Reply;
 use std::fmt;
 
 fn write_plan<W: fmt::Write>(f: &mut fmt::Formatter<W>, plan: &[u16]) -> fmt::Result
-    ensures { WritesOnOk write_str_gives f.old result (flat_map spaced plan.now) f.new }
+    ensures { WritesOnOk W.write_str_gives f.old result (flat_map spaced plan.now) f.new }
 {
     for translator in plan {
         write!(f, " {translator}")?;

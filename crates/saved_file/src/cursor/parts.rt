@@ -44,7 +44,7 @@ impl<'a> Cursor<'a> {
     // The record of section 1, of the kind and the sizes expected.
     pub fn sheet_record_of<K: Kind>(&mut self, sizes: Sizes) -> Result<(), Fault>
         requires { self.old.at ≡ 2 }
-        ensures value { result ≡ answer (first_broken (sheet_rules (just number valid sizes.packages sizes.translators) self.old.file.now)) 1 1 2 tt }
+        ensures value { result ≡ answer (first_broken (sheet_rules (just K.number K.valid sizes.packages sizes.translators) self.old.file.now)) 1 1 2 tt }
         ensures file { self.new.file.now ≡ self.old.file.now }
         ensures moved { is_ok result ≡ true → self.new.at ≡ 5 }
     {
@@ -78,7 +78,7 @@ impl<'a> Cursor<'a> {
         sizes: Sizes,
         number: u16,
     ) -> Result<GradeRecord, Fault>
-        ensures value { result ≡ answer (first_broken ((NotWhole, whole self.old.file.now self.old.at 6) ∷ (Place, inside sizes.packages sizes.translators (six_bytes (drop self.old.at self.old.file.now)).pkg (six_bytes (drop self.old.at self.old.file.now)).translator) ∷ (Code, valid (six_bytes (drop self.old.at self.old.file.now)).code) ∷ [])) 2 number self.old.at (six_bytes (drop self.old.at self.old.file.now)) }
+        ensures value { result ≡ answer (first_broken ((NotWhole, whole self.old.file.now self.old.at 6) ∷ (Place, inside sizes.packages sizes.translators (six_bytes (drop self.old.at self.old.file.now)).pkg (six_bytes (drop self.old.at self.old.file.now)).translator) ∷ (Code, K.valid (six_bytes (drop self.old.at self.old.file.now)).code) ∷ [])) 2 number self.old.at (six_bytes (drop self.old.at self.old.file.now)) }
         ensures file { self.new.file.now ≡ self.old.file.now }
         ensures moved { is_ok result ≡ true → self.new.at ≡ self.old.at + 6 }
     {
@@ -100,7 +100,7 @@ impl<'a> Cursor<'a> {
         number: u16,
         before: Option<GradeRecord>,
     ) -> Result<GradeRecord, Fault>
-        ensures value { result ≡ answer (first_broken (grade_rules (just K.Kind.number valid sizes.packages sizes.translators) self.old.file.now self.old.at before)) 2 number self.old.at (six_bytes (drop self.old.at self.old.file.now)) }
+        ensures value { result ≡ answer (first_broken (grade_rules (just K.number K.valid sizes.packages sizes.translators) self.old.file.now self.old.at before)) 2 number self.old.at (six_bytes (drop self.old.at self.old.file.now)) }
         ensures file { self.new.file.now ≡ self.old.file.now }
         ensures moved { is_ok result ≡ true → self.new.at ≡ self.old.at + 6 }
     {

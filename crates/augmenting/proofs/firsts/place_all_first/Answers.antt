@@ -8,9 +8,9 @@ loop-i-init g c whole = (whole, λ k l. absurd (omega arith))
 pub loop-i-preserved : goal.loop-i-preserved
 loop-i-preserved g c whole =
     let h = c.loop-i.invariant whole in
-    let f = c.place-first.ensures c.args.packages (omega arith) (omega arith) h.0 in (
+    let f = c.place_first.ensures c.args.packages (omega arith) (omega arith) h.0 in (
       f.complete,
-      least_more (g.P.Pattern.joins c.args.pattern.now) c.args.packages (g.P.Pattern.translators c.args.pattern.now) c.loop-i.i c.loop-i.owner c.place-first.new.owner
+      least_more (g.P.Pattern.joins c.args.pattern.now) c.args.packages (g.P.Pattern.translators c.args.pattern.now) c.loop-i.i c.loop-i.owner c.place_first.new.owner
           (omega arith) h.0 f h.1,
     )
 

@@ -10,11 +10,11 @@ returns g c p z l whole =
     let i = c.args.pkg in
     let o = c.args.owner.now in
     let n = c.release.new.owner in
-    let v = c.marks-before-visited.result in
+    let v = c.marks_before-visited.result in
     let r : Released i o n v =
     record {
-      marked = c.marks-before-visited.ensures.marked;
-      only = c.marks-before-visited.ensures.only;
+      marked = c.marks_before-visited.ensures.marked;
+      only = c.marks_before-visited.ensures.only;
       freed = c.release.ensures.freed;
       others = c.release.ensures.others;
     } in

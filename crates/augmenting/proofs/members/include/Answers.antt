@@ -7,8 +7,8 @@ one s i k h q =
     let e : k ≡ i - 1 = omega arith in
     ap (λ n. get_or (set s (i - 1) true) n false) e ∙ get_or-set_same s (i - 1) true false h
 
-pub returns-then-pkg-le-MOST-PACKAGES : goal.returns-then-pkg-le-MOST-PACKAGES
-returns-then-pkg-le-MOST-PACKAGES c =
+pub returns-then-pkg-le-MOST_PACKAGES : goal.returns-then-pkg-le-MOST_PACKAGES
+returns-then-pkg-le-MOST_PACKAGES c =
     let h : c.args.pkg - 1 < length c.args.places.now = search rules in
     let z : 0 < c.args.pkg = search rules in
     record {

@@ -2,7 +2,7 @@ use Rattle.std.proofs.Common.{◌<◌, Bool, List, length, get_or, sym, ap, ◌�
 use Rattle.augmenting.proofs.Necessity.{needed_at}
 use Rattle.augmenting.proofs.Passing.{handed_on_at, kept_passed, kept_taken, taken_at, unseen_falls, unseen_le, failed_at, passed_over}
 use Rattle.augmenting.proofs.paths.+augment.Goals as goal
-use Rattle.augmenting.proofs.paths.+augment.Goals.{then-not-visited-place+then-may-join+else-holder-eq0+else-augment, else-not-visited-place, else-not-visited-place-via-then-not-visited-place+else-may-join, else-not-visited-place-via-else-not-visited-place}
+use Rattle.augmenting.proofs.paths.+augment.Goals.{then-not-visited-place+then-may_join+else-holder-eq0+else-augment, else-not-visited-place, else-not-visited-place-via-then-not-visited-place+else-may_join, else-not-visited-place-via-else-not-visited-place}
 use Rattle.augmenting.specs.Owners.{Needed}
 use Rattle.std.proofs.lemmas.Bool.{true≢false, both_ways}
 
@@ -17,7 +17,7 @@ returns-then-holder-eq0 g t c =
       kept = λ k b. kept_taken C n c.args.visited.now c.loop-j.visited c.loop-j.owner c.loop-j.j c.args.pkg c.if-not-visited-place.true c.loop-j.invariant.1 k b ∙ ap (λ o. get_or o k 0) e;
       found = λ _ z m f.
           taken_at C n c.args.visited.now c.loop-j.visited c.loop-j.owner c.args.owner.now c.loop-j.j c.args.pkg e c.loop-j.invariant.1 c.loop-j.invariant.2
-          l h (sym c.if-may-join.ensures) c.if-holder-eq0.true m f;
+          l h (sym c.if-may_join.ensures) c.if-holder-eq0.true m f;
       same = λ q. absurd (true≢false q);
       closed = λ q. absurd (true≢false q);
       needed = λ q. absurd (true≢false q);
@@ -44,7 +44,7 @@ returns-then-augment g t c =
       kept = λ a b. kept_passed C n c.args.visited.now c.loop-j.visited c.loop-j.owner c.augment.new.owner c.loop-j.j c.args.pkg k c.if-not-visited-place.true c.loop-j.invariant.1 c.augment.ensures.kept a b ∙ ap (λ o. get_or o a 0) e;
       found = λ _ y m f.
           handed_on_at C n c.args.visited.now c.loop-j.visited c.loop-j.owner c.args.owner.now c.augment.new.owner c.loop-j.j c.args.pkg e c.loop-j.invariant.1 c.loop-j.invariant.2
-          l h k (sym c.if-may-join.ensures) z c.augment.ensures.kept (c.augment.ensures.found c.if-augment.true z) m f;
+          l h k (sym c.if-may_join.ensures) z c.augment.ensures.kept (c.augment.ensures.found c.if-augment.true z) m f;
       same = λ q. absurd (true≢false q);
       closed = λ q. absurd (true≢false q);
       needed = λ q. absurd (true≢false q);
@@ -64,7 +64,7 @@ loop-j-preserved g t c =
     let h : j < length w = search rules in
     let l : j < n = search rules in
     elim c.if-not-visited-place.branch [
-      | then-not-visited-place+then-may-join+else-holder-eq0+else-augment y ↦
+      | then-not-visited-place+then-may_join+else-holder-eq0+else-augment y ↦
           let z : 0 < get_or o j 0 = omega (arith, y.if-holder-eq0.false) in
           let f =
           failed_at C n v w y.augment.new.visited o a y.augment.new.owner j i c.loop-j.invariant.0 c.loop-j.invariant.1 c.loop-j.invariant.2
@@ -73,14 +73,14 @@ loop-j-preserved g t c =
             f.0,
             f.1,
             f.2,
-            needed_at C n v w y.augment.new.visited o a j i c.loop-j.invariant.0 l h z y.if-not-visited-place.true (sym y.if-may-join.ensures) c.loop-j.invariant.1 c.loop-j.invariant.3
+            needed_at C n v w y.augment.new.visited o a j i c.loop-j.invariant.0 l h z y.if-not-visited-place.true (sym y.if-may_join.ensures) c.loop-j.invariant.1 c.loop-j.invariant.3
                 (y.augment.ensures.needed y.if-augment.false) c.if-not-visited-place.visited y.visited-is,
           )
       | else-not-visited-place y ↦
           let f =
           passed_over C n v w o a j i c.loop-j.invariant.0 c.loop-j.invariant.1 c.loop-j.invariant.2
           (elim y.else-not-visited-place.branch [
-            | else-not-visited-place-via-then-not-visited-place+else-may-join x ↦ λ q. absurd (both_ways x.may-join.result x.if-may-join.false (x.may-join.ensures ∙ q))
+            | else-not-visited-place-via-then-not-visited-place+else-may_join x ↦ λ q. absurd (both_ways x.may_join.result x.if-may_join.false (x.may_join.ensures ∙ q))
             | else-not-visited-place-via-else-not-visited-place x ↦ λ q. x.if-not-visited-place.false
           ])
           c.if-not-visited-place.owner c.if-not-visited-place.visited y.owner-is y.visited-is in

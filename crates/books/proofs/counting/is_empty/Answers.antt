@@ -14,4 +14,4 @@ told m s n e =
 pub returns : goal.returns
 returns g c =
     told (g.R.Reading.meaning c.args.book.now) (g.met.R.Reading.sound c.args.book.now)
-    c.standing-grades.result c.standing-grades.ensures
+    c.standing_grades.result c.standing_grades.ensures

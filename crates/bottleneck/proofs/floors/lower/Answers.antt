@@ -9,14 +9,14 @@ returns-in-Some g c =
     let valid = g.K.Kind.valid in
     let above = g.K.Kind.above in
     let table = c.args.table.now in
-    let set = c.owners-and-set.result in
+    let set = c.owners_and-set.result in
     let few = table.sized.1 in
     let less = table.sized.3 in
     let full = set.full in
     let wide : table.packages ≤ length set.places = omega (arith, few, full) in
     let h : Stuck (at_floor above table.codes table.floor) table.packages table.translators c.args.pkg c.args.owner.now [] c.args.visited.now set.places =
     stuck (at_floor above table.codes table.floor) table.packages table.translators c.args.pkg c.args.owner.now c.args.visited.now set.places
-    c.requires.within.0 c.requires.within.1 wide c.requires.before c.requires.left c.owners-and-set.ensures in
+    c.requires.within.0 c.requires.within.1 wide c.requires.before c.requires.left c.owners_and-set.ensures in
     record {
       codes = refl;
       packages = refl;
@@ -30,13 +30,13 @@ returns-in-None g c =
     let valid = g.K.Kind.valid in
     let above = g.K.Kind.above in
     let table = c.args.table.now in
-    let set = c.owners-and-set.result in
+    let set = c.owners_and-set.result in
     let few = table.sized.1 in
     let full = set.full in
     let wide : table.packages ≤ length set.places = omega (arith, few, full) in
     let h : Stuck (at_floor above table.codes table.floor) table.packages table.translators c.args.pkg c.args.owner.now [] c.args.visited.now set.places =
     stuck (at_floor above table.codes table.floor) table.packages table.translators c.args.pkg c.args.owner.now c.args.visited.now set.places
-    c.requires.within.0 c.requires.within.1 wide c.requires.before c.requires.left c.owners-and-set.ensures in
+    c.requires.within.0 c.requires.within.1 wide c.requires.before c.requires.left c.owners_and-set.ensures in
     record {
       codes = refl;
       packages = refl;

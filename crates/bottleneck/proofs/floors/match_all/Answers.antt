@@ -13,7 +13,7 @@ loop-pkg-preserved-then-augment g c =
       c.loop-pkg.invariant.2,
       omega arith,
       omega arith,
-      placed_more C table.translators c.loop-pkg.pkg c.no-marks-visited.result c.loop-pkg.owner c.augment.new.owner b
+      placed_more C table.translators c.loop-pkg.pkg c.no_marks-visited.result c.loop-pkg.owner c.augment.new.owner b
           (c.augment.ensures.found c.if-augment.true (omega arith) b.matching (left_free C table.translators c.loop-pkg.pkg c.loop-pkg.owner b)),
       c.loop-pkg.invariant.6,
     )
@@ -26,8 +26,8 @@ loop-pkg-preserved g c =
     let k = c.lower.ensures.packages in
     let w =
     still_placed g.K.Kind.valid g.K.Kind.above table.codes next.codes table.packages next.packages table.translators next.translators c.loop-pkg.pkg table.floor next.floor
-    c.in-ok-tight.tight.places c.loop-pkg.owner c.augment.new.owner c.lower.ensures.codes c.lower.ensures.packages c.lower.ensures.translators
-    (c.augment.ensures.same c.if-augment.false) c.in-ok-tight.ensures.set b in (
+    c.in_ok-tight.tight.places c.loop-pkg.owner c.augment.new.owner c.lower.ensures.codes c.lower.ensures.packages c.lower.ensures.translators
+    (c.augment.ensures.same c.if-augment.false) c.in_ok-tight.ensures.set b in (
       c.lower.ensures.codes ∙ c.loop-pkg.invariant.0,
       c.lower.ensures.packages ∙ c.loop-pkg.invariant.1,
       c.lower.ensures.translators ∙ c.loop-pkg.invariant.2,

@@ -16,10 +16,10 @@ loop-k-preserved g c =
     let w = c.args.visited.now in
     elim c.if-has.branch [
       | then-has y ↦
-          let row = y.highest-in-row-best.ensures in (
+          let row = y.highest_in_row-best.ensures in (
             subst (Valid valid) (sym y.best-is) row.best.right,
             subst (λ (x : Option ℕ). Highest above G (k + 1) t s w x) (sym y.best-is)
-                (rows_more valid above G c.requires t k s w c.loop-k.best y.highest-in-row-best.result (sym c.has.ensures ∙ y.if-has.true) row.best row.from c.loop-k.invariant.1),
+                (rows_more valid above G c.requires t k s w c.loop-k.best y.highest_in_row-best.result (sym c.has.ensures ∙ y.if-has.true) row.best row.from c.loop-k.invariant.1),
           )
       | else-has y ↦ (
         subst (Valid valid) (sym y.best-is) c.loop-k.invariant.0,

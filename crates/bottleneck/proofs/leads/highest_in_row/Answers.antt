@@ -24,7 +24,7 @@ loop-j-preserved g c =
       | then-not-visited-j y ↦
           row_more valid above g.met.K.Kind.order G c.requires.valid c.args.table.now.translators k j w before best y.code.result
           c.loop-j-test.true y.if-not-visited-j.true (ap grade_of_code (sym y.code.ensures)) c.loop-j.invariant.0 c.loop-j.invariant.1
-          c.if-not-visited-j.best (y.best-is ∙ y.higher-of-best.ensures)
+          c.if-not-visited-j.best (y.best-is ∙ y.higher_of-best.ensures)
       | else-not-visited-j y ↦ (
         subst (λ (x : Option ℕ). HighestInRow valid above G (j + 1) k w before x) (sym y.best-is)
             (row_over valid above G k j w before best (λ code s e. absurd (both_ways _ s y.if-not-visited-j.false)) c.loop-j.invariant.0),

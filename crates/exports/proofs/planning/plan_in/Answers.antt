@@ -11,14 +11,14 @@ check_says :
     → codes_right valid (take n codes) ≡ b
 check_says valid codes n pairs r b e h d = ap (λ (x : ℕ). codes_right valid (take x codes)) (sym e) ∙ sym h ∙ d
 
-pub returns-then-not-first-are-right : goal.returns-then-not-first-are-right
-returns-then-not-first-are-right g c =
+pub returns-then-not-first_are_right : goal.returns-then-not-first_are_right
+returns-then-not-first_are_right g c =
     let sizes = c.args.sizes in
     let codes = c.args.codes.now in
     let lent : Places = record { plan = c.args.plan.now; set = c.args.set.now; lowest = c.args.lowest.now } in
     let e =
-    check_says g.K.Kind.valid codes (sizes.packages * sizes.translators) _ _ _ c.pairs-of-pairs.ensures c.first-are-right.ensures
-    c.if-not-first-are-right.true in
+    check_says g.K.Kind.valid codes (sizes.packages * sizes.translators) _ _ _ c.pairs_of-pairs.ensures c.first_are_right.ensures
+    c.if-not-first_are_right.true in
     (wrong_codes _ sizes.packages sizes.translators codes lent sizes.within e, refl {a = lent})
 
 pub returns-then-codes-pairs : goal.returns-then-codes-pairs
@@ -27,9 +27,9 @@ returns-then-codes-pairs g c =
     let codes = c.args.codes.now in
     let lent : Places = record { plan = c.args.plan.now; set = c.args.set.now; lowest = c.args.lowest.now } in
     let e =
-    check_says g.K.Kind.valid codes (sizes.packages * sizes.translators) _ _ _ c.pairs-of-pairs.ensures c.first-are-right.ensures
-    c.if-not-first-are-right.false in
-    let l : length codes < sizes.packages * sizes.translators = omega (arith, c.pairs-of-pairs.ensures, c.if-codes-pairs.true) in
+    check_says g.K.Kind.valid codes (sizes.packages * sizes.translators) _ _ _ c.pairs_of-pairs.ensures c.first_are_right.ensures
+    c.if-not-first_are_right.false in
+    let l : length codes < sizes.packages * sizes.translators = omega (arith, c.pairs_of-pairs.ensures, c.if-codes-pairs.true) in
     (few_codes _ sizes.packages sizes.translators codes lent sizes.within e l, refl {a = lent})
 
 pub returns-in-Planned : goal.returns-in-Planned
@@ -40,13 +40,13 @@ returns-in-Planned g c =
     let codes = c.args.codes.now in
     let lent : Places = record { plan = c.args.plan.now; set = c.args.set.now; lowest = c.args.lowest.now } in
     let e =
-    check_says g.K.Kind.valid codes (p * t) _ _ _ c.pairs-of-pairs.ensures c.first-are-right.ensures
-    c.if-not-first-are-right.false in
-    let l : p * t ≤ length codes = omega (arith, c.pairs-of-pairs.ensures, c.if-codes-pairs.false) in
+    check_says g.K.Kind.valid codes (p * t) _ _ _ c.pairs_of-pairs.ensures c.first_are_right.ensures
+    c.if-not-first_are_right.false in
+    let l : p * t ≤ length codes = omega (arith, c.pairs_of-pairs.ensures, c.if-codes-pairs.false) in
     let w =
-    planned_as g.K.Kind.above _ _ p t lent.plan lent.set c.match-into.new.plan c.match-into.new.set
-    c.in-ok-code.field-0 c.in-Planned.plan c.in-Planned.code c.in-Planned.is
-    (all_count g.K.Kind.valid codes p t e) c.in-ok-code.ensures in
+    planned_as g.K.Kind.above _ _ p t lent.plan lent.set c.match_into.new.plan c.match_into.new.set
+    c.in_ok-code.field-0 c.in-Planned.plan c.in-Planned.code c.in-Planned.is
+    (all_count g.K.Kind.valid codes p t e) c.in_ok-code.ensures in
     (no_reason _ p t codes lent sizes.within e l w.room, w)
 
 pub returns-in-Short : goal.returns-in-Short
@@ -57,10 +57,10 @@ returns-in-Short g c =
     let codes = c.args.codes.now in
     let lent : Places = record { plan = c.args.plan.now; set = c.args.set.now; lowest = c.args.lowest.now } in
     let e =
-    check_says g.K.Kind.valid codes (p * t) _ _ _ c.pairs-of-pairs.ensures c.first-are-right.ensures
-    c.if-not-first-are-right.false in
-    let l : p * t ≤ length codes = omega (arith, c.pairs-of-pairs.ensures, c.if-codes-pairs.false) in
+    check_says g.K.Kind.valid codes (p * t) _ _ _ c.pairs_of-pairs.ensures c.first_are_right.ensures
+    c.if-not-first_are_right.false in
+    let l : p * t ≤ length codes = omega (arith, c.pairs_of-pairs.ensures, c.if-codes-pairs.false) in
     let w =
-    short_as g.K.Kind.above _ _ p t lent.plan lent.set c.match-into.new.plan c.match-into.new.set
-    c.in-ok-code.field-0 c.in-Short.is (all_count g.K.Kind.valid codes p t e) c.in-ok-code.ensures in
+    short_as g.K.Kind.above _ _ p t lent.plan lent.set c.match_into.new.plan c.match_into.new.set
+    c.in_ok-code.field-0 c.in-Short.is (all_count g.K.Kind.valid codes p t e) c.in_ok-code.ensures in
     (no_reason _ p t codes lent sizes.within e l w.room, w, refl {a = lent.lowest})

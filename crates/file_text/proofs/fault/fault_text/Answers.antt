@@ -25,6 +25,6 @@ told text words layer cause f a b c h =
 
 pub returns : goal.returns
 returns c =
-    told _ c.in-words-words.result.now c.layer-name-layer.result.now c.number-cause.result c.args.fault
-    c.in-words-words.ensures c.number-cause.ensures c.layer-name-layer.ensures
-    (simp append_assoc at c.in-ok-line.ensures.ok)
+    told _ c.in_words-words.result.now c.layer_name-layer.result.now c.number-cause.result c.args.fault
+    c.in_words-words.ensures c.number-cause.ensures c.layer_name-layer.ensures
+    (simp append_assoc at c.in_ok-line.ensures.ok)

@@ -14,15 +14,15 @@ returns-in-Matched g c =
     let above = g.K.Kind.above in
     let m = g.R.Reading.meaning c.args.grades.now in
     let G = valid_grades valid m in
-    let plan = c.of-owners.result in
+    let plan = c.of_owners.result in
     let found = c.in-Matched.ensures in
     let few = plan.few.1 in
     let full = plan.full in
-    let e : plan.packages ≡ m.packages = c.of-owners.ensures.packages ∙ c.packages.ensures in
+    let e : plan.packages ≡ m.packages = c.of_owners.ensures.packages ∙ c.packages.ensures in
     let wide : m.packages ≤ length plan.numbers = omega (arith, few, full, e) in (
       subst (λ (x : ℕ). BestPlan above G m.packages m.translators (take x plan.numbers) c.in-Matched.lowest) (sym e)
           (best_from valid above g.met.K.Kind.order G (all_counted valid m) m.packages m.translators c.in-Matched.lowest c.in-Matched.owner c.in-Matched.tight.places found
-          plan.numbers wide c.of-owners.ensures.numbers),
+          plan.numbers wide c.of_owners.ensures.numbers),
       found.tight,
     )
 

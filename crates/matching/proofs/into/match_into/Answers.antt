@@ -7,8 +7,8 @@ use Rattle.matching.proofs.into.match_into.Goals as goal
 use Rattle.matching.specs.Answers.{member}
 use Rattle.matching.specs.Written.{numbers_of}
 
-pub returns-in-ok-write-into : goal.returns-in-ok-write-into
-returns-in-ok-write-into g c =
+pub returns-in_ok-write_into-in-Planned : goal.returns-in_ok-write_into-in-Planned
+returns-in_ok-write_into-in-Planned g c =
     let above = g.K.Kind.above in
     let m = g.R.Reading.meaning c.args.grades.now in
     let G = valid_grades g.K.Kind.valid m in
@@ -20,20 +20,20 @@ returns-in-ok-write-into g c =
     let xs = numbers_of c.in-Planned.best in
     let plan = c.args.plan.now in
     let set = c.args.set.now in
-    let plan' = c.write-into.new.out in
-    let set' = c.write-members.new.out in
+    let plan' = c.write_into.new.out in
+    let set' = c.write_members.new.out in
     let right = c.in-Planned.ensures in
     let long = right.0.full.long in
     let a : p ≤ length plan = omega (arith, e) in
     let b : p ≤ length set = omega (arith, e) in
-    let first : (k : ℕ) → k < p → get_or set' k 0 ≡ cond (seen s k) 1 0 = λ k l. c.write-members.ensures.first k (omega (arith, l, e)) in
+    let first : (k : ℕ) → k < p → get_or set' k 0 ≡ cond (seen s k) 1 0 = λ k l. c.write_members.ensures.first k (omega (arith, l, e)) in
     record {
       room = (a, b);
-      value = front_written xs plan plan' p long a c.write-into.ensures.after;
+      value = front_written xs plan plan' p long a c.write_into.ensures.after;
       planned = right.0;
-      rest = rest_written xs plan plan' p long a c.write-into.ensures.after;
+      rest = rest_written xs plan plan' p long a c.write_into.ensures.after;
       tight = same_members (graded_above above G lowest) p t (seen s) (member set') (members_written s p set' first) right.1;
-      marks = marks_written s p set set' c.write-members.auto.out first (λ k l. c.write-members.ensures.rest k (omega (arith, l, e)));
+      marks = marks_written s p set set' c.write_members.auto.out first (λ k l. c.write_members.ensures.rest k (omega (arith, l, e)));
     }
 
 pub returns-in-Short : goal.returns-in-Short
@@ -45,13 +45,13 @@ returns-in-Short g c =
     let e = c.packages-packages.ensures in
     let s = c.in-Short.short.places in
     let set = c.args.set.now in
-    let set' = c.write-members-in-Short.new.out in
+    let set' = c.write_members-in-Short.new.out in
     let right = c.in-Short.ensures in
-    let first : (k : ℕ) → k < p → get_or set' k 0 ≡ cond (seen s k) 1 0 = λ k l. c.write-members-in-Short.ensures.first k (omega (arith, l, e)) in
+    let first : (k : ℕ) → k < p → get_or set' k 0 ≡ cond (seen s k) 1 0 = λ k l. c.write_members-in-Short.ensures.first k (omega (arith, l, e)) in
     record {
       room = (omega (arith, e), omega (arith, e));
       none = right.0;
       same = refl;
       short = same_members (graded G) p t (seen s) (member set') (members_written s p set' first) right.1;
-      marks = marks_written s p set set' c.write-members-in-Short.auto.out first (λ k l. c.write-members-in-Short.ensures.rest k (omega (arith, l, e)));
+      marks = marks_written s p set set' c.write_members-in-Short.auto.out first (λ k l. c.write_members-in-Short.ensures.rest k (omega (arith, l, e)));
     }

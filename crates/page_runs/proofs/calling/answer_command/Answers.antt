@@ -22,7 +22,7 @@ returns-in-BadLine c h live = (
   h,
   subst (Live c.args.sizes.packages c.args.sizes.translators h c.args.sheet.now) (sym c.in-BadLine.ensures.1) live,
   Tells.bad_line c.in-BadLine.ensures.0 refl refl,
-  c.tell-remark.ensures,
+  c.tell_remark.ensures,
 )
 
 pub returns-in-NoSlip : goal.returns-in-NoSlip
@@ -33,7 +33,7 @@ returns-in-NoSlip c h live =
       subst (Live c.args.sizes.packages c.args.sizes.translators h c.args.sheet.now) w.1 live,
       lacks c.args.sizes.packages c.args.sizes.translators h c.args.sheet.now c.args.held (said_of c.args.command)
           w.0.0 live w.1 w.0.1 w.0.2,
-      c.tell-remark-in-NoSlip.ensures,
+      c.tell_remark-in-NoSlip.ensures,
     )
 
 pub returns-in-Call : goal.returns-in-Call
@@ -52,6 +52,6 @@ returns-in-Call c h live =
       tells p t h s after c.args.held c.in-Call.kept l a live w.1 c.call-outcome.ensures.ran
           (said_of c.args.command) w.0,
       told_at _ _ _ _ _
-          (c.reply-of.ensures ∙ ap (λ (n : ℕ). told_as n a.outcome a.plan) (c.from-packages.ensures ∙ c.packages.ensures))
+          (c.reply_of.ensures ∙ ap (λ (n : ℕ). told_as n a.outcome a.plan) (c.from-packages.ensures ∙ c.packages.ensures))
           c.tell-told.ensures,
     )

@@ -9,7 +9,7 @@ use Rattle.refusals.specs.Refusals.{number_of}
 
 pub returns-in-Err : goal.returns-in-Err
 returns-in-Err c =
-    made_map c.tell-remark-in-Err.result _ _
+    made_map c.tell_remark-in-Err.result _ _
     (λ u e. (
       line_of (Told.refused (number_of c.in-Err.refusal)),
       e,
@@ -17,18 +17,18 @@ returns-in-Err c =
           c.in-Open.translators (said_of c.parse.result) (omega arith) (sym c.of-lines.ensures ∙ c.in-Some.ensures)
           c.parse.ensures (ap said_of c.in-Open.is) c.in-Err.refusal c.in-Err.ensures,
     ))
-    c.tell-remark-in-Err.ensures
+    c.tell_remark-in-Err.ensures
 
-pub returns-in-ok-tell-remark : goal.returns-in-ok-tell-remark
-returns-in-ok-tell-remark c =
-    made_map c.run-lines.result _ _
+pub returns-in_ok-tell_remark : goal.returns-in_ok-tell_remark
+returns-in_ok-tell_remark c =
+    made_map c.run_lines.result _ _
     (λ u w. (
       line_of Told.ok ++ w.0,
-      w.1 ∙ ap (λ (x : List ℕ). x ++ w.0) c.in-ok-tell-remark.ensures
+      w.1 ∙ ap (λ (x : List ℕ). x ++ w.0) c.in_ok-tell_remark.ensures
           ∙ append_assoc (string_bytes c.args.out.now) (line_of Told.ok) w.0,
       opening_follows c.args.input.now c.in-Some.first.now (left_of c.next.new.self) c.in-Open.packages
           c.in-Open.translators (said_of c.parse.result) (omega arith) (sym c.of-lines.ensures ∙ c.in-Some.ensures)
           c.parse.ensures (ap said_of c.in-Open.is) c.in-Ok.sizes.packages c.in-Ok.sizes.translators w.0
           c.in-Ok.ensures w.2,
     ))
-    c.run-lines.ensures
+    c.run_lines.ensures

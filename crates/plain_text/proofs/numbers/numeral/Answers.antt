@@ -15,11 +15,11 @@ returns-then-b-lt48 c =
           no_digit xs i c.loop-b-test.true (and_right _ _ (lt-leb (get_or xs i 0) 57 w.if-b-gt57.true)) c.loop-b.invariant.1
     ]
 
-pub overflow-mul-n : goal.overflow-mul-n
-overflow-mul-n c = omega (arith, c.loop-b.invariant.2, below_nine c.loop-b.b-index (omega arith))
+pub overflow_mul-n : goal.overflow_mul-n
+overflow_mul-n c = omega (arith, c.loop-b.invariant.2, below_nine c.loop-b.b-index (omega arith))
 
-pub overflow-add-n : goal.overflow-add-n
-overflow-add-n c = omega (arith, c.loop-b.invariant.2, below_nine c.loop-b.b-index (omega arith), c.from.ensures)
+pub overflow_add-n : goal.overflow_add-n
+overflow_add-n c = omega (arith, c.loop-b.invariant.2, below_nine c.loop-b.b-index (omega arith), c.from.ensures)
 
 pub loop-b-preserved : goal.loop-b-preserved
 loop-b-preserved c =
@@ -37,4 +37,4 @@ loop-b-preserved c =
 pub returns : goal.returns
 returns c =
     all_digits c.args.digits.now c.loop-b.n c.loop-b.b-index c.loop-b-test.false c.if-digits-lt1.false
-    c.if-digits-gt-MOST-DIGITS.false c.loop-b.invariant.0 c.loop-b.invariant.1
+    c.if-digits-gt-MOST_DIGITS.false c.loop-b.invariant.0 c.loop-b.invariant.1

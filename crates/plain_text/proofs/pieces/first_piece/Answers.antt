@@ -6,12 +6,12 @@ use Rattle.std.proofs.Common.{add-one, arith}
 
 pub returns-then-end-bytes : goal.returns-then-end-bytes
 returns-then-end-bytes c =
-    let e = c.first-index-end.result in
+    let e = c.first_index-end.result in
     simp (sub-zero, take_rest, add-one)
-    (pieces_cut c.args.cut c.args.bytes.now e c.if-end-bytes.true c.first-index-end.ensures.before
-    (c.first-index-end.ensures.found c.if-end-bytes.true))
+    (pieces_cut c.args.cut c.args.bytes.now e c.if-end-bytes.true c.first_index-end.ensures.before
+    (c.first_index-end.ensures.found c.if-end-bytes.true))
 
 pub returns-else-end-bytes : goal.returns-else-end-bytes
 returns-else-end-bytes c =
     pieces_whole c.args.cut c.args.bytes.now
-    (λ k l. c.first-index-end.ensures.before k (omega (arith, c.if-end-bytes.false)))
+    (λ k l. c.first_index-end.ensures.before k (omega (arith, c.if-end-bytes.false)))

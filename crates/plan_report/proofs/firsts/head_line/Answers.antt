@@ -6,6 +6,6 @@ use Rattle.std.proofs.Common.{string_bytes}
 pub returns : goal.returns
 returns c =
     head_told (kind_number c.args.head.kind) c.args.head.sizes.packages c.args.head.sizes.translators c.args.count
-    c.number-of.result c.packages.result c.translators.result (string_bytes c.in-ok-text.text)
-    (string_bytes c.push-str.new.self) c.number-of.ensures c.packages.ensures c.translators.ensures
-    c.in-ok-text.ensures c.in-ok-push-str.ensures.bytes
+    c.number_of.result c.packages.result c.translators.result (string_bytes c.in_ok-text.text)
+    (string_bytes c.push_str.new.self) c.number_of.ensures c.packages.ensures c.translators.ensures
+    c.in_ok-text.ensures c.in_ok-push_str.ensures.bytes

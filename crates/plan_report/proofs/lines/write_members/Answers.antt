@@ -9,4 +9,4 @@ loop-place-init c = members_none (member c.args.set.now) (string_bytes c.args.ou
 pub loop-place-preserved : goal.loop-place-preserved
 loop-place-preserved c =
     members_more (member c.args.set.now) (string_bytes c.args.out.now) (string_bytes c.loop-place.out)
-    (string_bytes c.write-member.new.out) c.loop-place.place c.loop-place.invariant c.in-ok-write-member.ensures
+    (string_bytes c.write_member.new.out) c.loop-place.place c.loop-place.invariant c.in_ok-write_member.ensures

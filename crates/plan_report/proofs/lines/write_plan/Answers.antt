@@ -12,8 +12,8 @@ returns c =
     let lowest = lowest_line (kind_number c.args.kind) c.args.lowest in
     let named = set_line tight_words (member c.args.set.now) (length c.args.set.now) in
     let start = string_bytes c.args.out.now in
-    two_parts start (rows ++ lowest) named (string_bytes c.writeln.new.self) (string_bytes c.write-set.new.out)
-    (two_parts start rows lowest (string_bytes c.write-table.new.out) (string_bytes c.writeln.new.self)
-    c.in-ok-write-table.ensures c.in-ok-writeln.ensures.bytes)
-    c.in-ok-write-set.ensures
+    two_parts start (rows ++ lowest) named (string_bytes c.writeln.new.self) (string_bytes c.write_set.new.out)
+    (two_parts start rows lowest (string_bytes c.write_table.new.out) (string_bytes c.writeln.new.self)
+    c.in_ok-write_table.ensures c.in_ok-writeln.ensures.bytes)
+    c.in_ok-write_set.ensures
     ∙ ap (λ (x : List ℕ). start ++ x) (append_assoc rows lowest named)

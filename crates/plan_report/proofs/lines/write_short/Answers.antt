@@ -8,4 +8,4 @@ pub returns : goal.returns
 returns c =
     two_parts (string_bytes c.args.out.now) no_plan_line
     (set_line short_words (member c.args.set.now) (length c.args.set.now)) (string_bytes c.writeln.new.self)
-    (string_bytes c.write-set.new.out) c.in-ok-writeln.ensures.bytes c.in-ok-write-set.ensures
+    (string_bytes c.write_set.new.out) c.in_ok-writeln.ensures.bytes c.in_ok-write_set.ensures

@@ -9,11 +9,11 @@ use Rattle.std.proofs.Common.{sym, subst}
 pub returns-in-OfPoints : goal.returns-in-OfPoints
 returns-in-OfPoints c =
     subst
-    (λ (k : KindName). Settled (above_in (kind_number k)) (grade_in c.args.file.now) c.args.head.sizes.packages c.args.head.sizes.translators c.draw-file.new.plan c.draw-file.new.set c.draw-file.result)
-    (sym c.in-OfPoints.is) c.draw-file.ensures
+    (λ (k : KindName). Settled (above_in (kind_number k)) (grade_in c.args.file.now) c.args.head.sizes.packages c.args.head.sizes.translators c.draw_file.new.plan c.draw_file.new.set c.draw_file.result)
+    (sym c.in-OfPoints.is) c.draw_file.ensures
 
 pub returns-in-OfRatings : goal.returns-in-OfRatings
 returns-in-OfRatings c =
     subst
-    (λ (k : KindName). Settled (above_in (kind_number k)) (grade_in c.args.file.now) c.args.head.sizes.packages c.args.head.sizes.translators c.draw-file-in-OfRatings.new.plan c.draw-file-in-OfRatings.new.set c.draw-file-in-OfRatings.result)
-    (sym c.in-OfRatings.is) c.draw-file-in-OfRatings.ensures
+    (λ (k : KindName). Settled (above_in (kind_number k)) (grade_in c.args.file.now) c.args.head.sizes.packages c.args.head.sizes.translators c.draw_file-in-OfRatings.new.plan c.draw_file-in-OfRatings.new.set c.draw_file-in-OfRatings.result)
+    (sym c.in-OfRatings.is) c.draw_file-in-OfRatings.ensures

@@ -4,7 +4,7 @@ use Rattle.plan_report.proofs.Telling.{fault_told}
 use Rattle.plan_report.proofs.whole.report.Goals as goal
 
 pub returns-in-Ok : goal.returns-in-Ok
-returns-in-Ok c = record { told = c.report-right.ensures; agree = reports_agree }
+returns-in-Ok c = record { told = c.report_right.ensures; agree = reports_agree }
 
 pub returns-in-Err : goal.returns-in-Err
 returns-in-Err c =

@@ -6,18 +6,18 @@ use Rattle.plan_report.specs.Reports.{Report}
 use Rattle.plan_report.specs.Texts.{head_line}
 use Rattle.saved_file.specs.ByItself.{kind_number}
 
-pub tell-draw-requires : goal.tell-draw-requires
-tell-draw-requires c =
+pub tell_draw-requires : goal.tell_draw-requires
+tell_draw-requires c =
     let h = c.in-Ok.head in
     let file = c.args.file.now in
     let right = own_right h file c.in-Ok.ensures.2 c.requires.right in
     record {
       right = right;
-      grades = c.grades-in-grades.ensures ∙ ap grade_in c.requires.same;
+      grades = c.grades_in-grades.ensures ∙ ap grade_in c.requires.same;
       begun =
-          c.in-ok-text.ensures
+          c.in_ok-text.ensures
           ∙ ap (λ (n : ℕ). head_line (kind_number h.kind) h.sizes.packages h.sizes.translators n)
-          (c.count.ensures ∙ c.requires.count ∙ counted h file (λ k. (c.type-inv.file k).fits) right);
+          (c.count.ensures ∙ c.requires.count ∙ counted h file (λ k. (c.type_inv.file k).fits) right);
     }
 
 pub returns : goal.returns
@@ -26,4 +26,4 @@ returns c =
     let file = c.args.file.now in
     let right = own_right h file c.in-Ok.ensures.2 c.requires.right in
     Report.told (kind_number h.kind) h.sizes.packages h.sizes.translators (grade_in file)
-    (held h file (λ k. (c.type-inv.file k).fits) right) c.in-Ok-tell-draw.ensures
+    (held h file (λ k. (c.type_inv.file k).fits) right) c.in-Ok-tell_draw.ensures

@@ -13,7 +13,7 @@ returns-in-Some g c =
     let l : c.in-Some.code < 2 ^ 32 = search rules in
     record {
       ends = ap (λ o. c.args.at + 6 * one o) (sym e);
-      after = c.write-grade.ensures ∙ ap (λ o. put_at c.args.out.now c.args.at (of_grade c.args.pkg c.args.translator o)) (sym e);
+      after = c.write_grade.ensures ∙ ap (λ o. put_at c.args.out.now c.args.at (of_grade c.args.pkg c.args.translator o)) (sym e);
       code = code_of_some _ c.in-Some.code e l;
     }
 

@@ -13,8 +13,8 @@ loop-translator-init g c =
     c.args.at in
     (w.0, w.1, row_fits_none ((g.R.Reading.meaning c.args.book.now).grade c.args.pkg))
 
-pub write-pair-end-requires : goal.write-pair-end-requires
-write-pair-end-requires g c =
+pub write_pair-end-requires : goal.write_pair-end-requires
+write_pair-end-requires g c =
     let m = g.R.Reading.meaning c.args.book.now in
     let k : c.loop-translator.translator + 1 ≤ m.translators = omega (arith, c.translators-translator-end.ensures) in
     let r =
@@ -28,12 +28,12 @@ loop-translator-preserved g c =
     let f = m.grade c.args.pkg in
     let j = c.loop-translator.translator in
     let k : c.loop-translator.translator ≤ m.translators = omega (arith, c.translators-translator-end.ensures) in (
-      row_end c.args.pkg f c.args.out.now c.args.at j c.loop-translator.end c.write-pair-end.result
-          c.loop-translator.invariant.0 c.write-pair-end.ensures.ends,
+      row_end c.args.pkg f c.args.out.now c.args.at j c.loop-translator.end c.write_pair-end.result
+          c.loop-translator.invariant.0 c.write_pair-end.ensures.ends,
       row_after c.args.pkg f c.args.out.now c.args.at j m.translators c.loop-translator.end
-          c.loop-translator.out c.write-pair-end.new.out c.loop-translator.invariant.0 k c.requires
-          c.loop-translator.invariant.1 c.write-pair-end.ensures.after,
-      row_fits_more f j c.loop-translator.invariant.2 c.write-pair-end.ensures.code,
+          c.loop-translator.out c.write_pair-end.new.out c.loop-translator.invariant.0 k c.requires
+          c.loop-translator.invariant.1 c.write_pair-end.ensures.after,
+      row_fits_more f j c.loop-translator.invariant.2 c.write_pair-end.ensures.code,
     )
 
 pub returns : goal.returns

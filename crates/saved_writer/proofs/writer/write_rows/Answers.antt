@@ -11,8 +11,8 @@ loop-pkg-init g c =
     let w = rows_start m.grade c.args.out.now m.packages m.translators c.requires in
     (w.0, w.1, codes_fit_none m.grade m.translators)
 
-pub write-row-at-requires : goal.write-row-at-requires
-write-row-at-requires g c =
+pub write_row-at-requires : goal.write_row-at-requires
+write_row-at-requires g c =
     let m = g.R.Reading.meaning c.args.book.now in
     let k : c.loop-pkg.pkg + 1 ≤ m.packages = omega (arith, c.packages-pkg-end.ensures) in
     let r =
@@ -26,11 +26,11 @@ loop-pkg-preserved g c =
     let i = c.loop-pkg.pkg in
     let k : c.loop-pkg.pkg ≤ m.packages = omega (arith, c.packages-pkg-end.ensures) in (
       rows_end m.grade c.args.out.now m.packages m.translators c.requires i c.loop-pkg.at
-          c.write-row-at.result c.loop-pkg.invariant.0 c.write-row-at.ensures.ends,
+          c.write_row-at.result c.loop-pkg.invariant.0 c.write_row-at.ensures.ends,
       rows_after m.grade c.args.out.now m.packages m.translators c.requires i c.loop-pkg.at
-          c.loop-pkg.out c.write-row-at.new.out c.loop-pkg.invariant.0 k c.loop-pkg.invariant.1
-          c.write-row-at.ensures.after,
-      codes_fit_more m.grade i m.translators c.loop-pkg.invariant.2 c.write-row-at.ensures.codes,
+          c.loop-pkg.out c.write_row-at.new.out c.loop-pkg.invariant.0 k c.loop-pkg.invariant.1
+          c.write_row-at.ensures.after,
+      codes_fit_more m.grade i m.translators c.loop-pkg.invariant.2 c.write_row-at.ensures.codes,
     )
 
 pub returns : goal.returns

@@ -13,7 +13,7 @@ loop-e-preserved g c =
     let xs = c.args.page.now in
     let ys = c.loop-e.page in
     let i = c.loop-e.e-index in
-    let y = c.run-entry.new.entry in
+    let y = c.run_entry.new.entry in
     let d = c.e-item.result in
     let es = events_in (take i xs) (take i ys) in
     let item : get_or ys i d ≡ get_or xs i d = same_item xs ys i d c.loop-e.invariant.1 in (
@@ -23,9 +23,9 @@ loop-e-preserved g c =
           ∙ run_push h es (event_in (get_or xs i d) y)
           ∙ ap (λ (z : Entry). event_in z y ∷ run_on h es) (sym item) in
           subst
-          (λ (z : List Event). Ran o z (opening_of g.B.Book.limit g.K.Kind.number g.K.Kind.valid g.K.Kind.above g.B.Reading.meaning c.run-entry.new.sheet)
-          (standing_of g.B.Reading.meaning c.run-entry.new.sheet))
-          (sym grown) (c.run-entry.ensures o (run_on h es) (c.loop-e.invariant.0 o h r))),
+          (λ (z : List Event). Ran o z (opening_of g.B.Book.limit g.K.Kind.number g.K.Kind.valid g.K.Kind.above g.B.Reading.meaning c.run_entry.new.sheet)
+          (standing_of g.B.Reading.meaning c.run_entry.new.sheet))
+          (sym grown) (c.run_entry.ensures o (run_on h es) (c.loop-e.invariant.0 o h r))),
       same_rest xs ys i y c.loop-e.invariant.1,
     )
 

@@ -8,18 +8,18 @@ use Rattle.sheet.proofs.entries.run_page.Goals as goal
 pub returns : goal.returns
 returns g c =
     record {
-      ran = c.run-entries.ensures;
+      ran = c.run_entries.ensures;
       refused = refused_for_the_first_reason;
       drawn = drawn_lines_have_the_best_plan;
       short = short_lines_have_no_plan;
-      drawn-or-short = drawn_where_there_is_a_plan;
+      drawn_or_short = drawn_where_there_is_a_plan;
       shown = shows_give_the_published_plan;
       done = other_calls_are_done;
       counted = every_slip_is_counted;
       same_answers = same_lines_same_answers;
-      come-off = refused_lines_come_off;
-      of-the-kind = standing_grades_are_of_the_kind;
-      come-back = saved_grades_come_back;
+      come_off = refused_lines_come_off;
+      of_the_kind = standing_grades_are_of_the_kind;
+      come_back = saved_grades_come_back;
       loaded = loaded_files_are_saved_ones;
       same_plan = same_grades_same_plan;
     }

@@ -11,13 +11,13 @@ returns-in-Ok c =
     let p = c.args.packages in
     let t = c.args.translators in
     let s = c.in-Ok.sizes in (
-      c.plan-of-answer.result,
+      c.plan_of-answer.result,
       c.tell.ensures.number,
       c.tell.ensures.lowest,
       drawn_in_sizes 1024 c.args.kind p t c.args.codes.now c.args.plan.now c.args.set.now m.packages
-          m.translators c.plan-of-answer.new.plan c.plan-of-answer.new.set c.plan-of-answer.result
+          m.translators c.plan_of-answer.new.plan c.plan_of-answer.new.set c.plan_of-answer.result
           (of_blank s.packages s.translators m (sizes_of p t) c.new-book.ensures c.in-Ok.ensures)
-          c.plan-of-answer.ensures,
+          c.plan_of-answer.ensures,
     )
 
 pub returns-in-Err : goal.returns-in-Err

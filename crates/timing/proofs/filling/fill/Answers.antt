@@ -10,8 +10,8 @@ loop-row-init g c =
 
 pub loop-row-preserved : goal.loop-row-preserved
 loop-row-preserved g c =
-    let h = c.in-ok-fill-row.ensures in (
-      next_row g.B.Book.limit c.args.codes.now c.loop-row.row (g.B.Reading.meaning c.fill-row.new.book) h.answer,
+    let h = c.in_ok-fill_row.ensures in (
+      next_row g.B.Book.limit c.args.codes.now c.loop-row.row (g.B.Reading.meaning c.fill_row.new.book) h.answer,
       h.packages ∙ c.loop-row.invariant.1,
       h.translators ∙ c.loop-row.invariant.2,
     )
@@ -27,14 +27,14 @@ returns g c =
           ∙ ap (λ n. sheet_of (g.B.Reading.meaning c.args.book.now).packages n codes) c.loop-row.invariant.2,
     )
 
-pub returns-in-err-fill-row : goal.returns-in-err-fill-row
-returns-in-err-fill-row g c =
+pub returns-in_err-fill_row : goal.returns-in_err-fill_row
+returns-in_err-fill_row g c =
     let m = g.B.Reading.meaning c.loop-row.book in
     let m₀ = g.B.Reading.meaning c.args.book.now in
     let limit = g.B.Book.limit in
     let codes = c.args.codes.now in
-    let e = c.in-err-fill-row.field-0.0 in
-    let m' = g.B.Reading.meaning c.fill-row.new.book in
-    handed_on ((count m' ≤ limit) × (m' ≡ sheet_of m₀.packages m₀.translators codes)) (Overfull limit m₀.packages m₀.translators codes) c.from-residual.result e c.from-residual.ensures.1
+    let e = c.in_err-fill_row.field-0.0 in
+    let m' = g.B.Reading.meaning c.fill_row.new.book in
+    handed_on ((count m' ≤ limit) × (m' ≡ sheet_of m₀.packages m₀.translators codes)) (Overfull limit m₀.packages m₀.translators codes) c.from_residual.result e c.from_residual.ensures.1
     (in_sizes limit m.packages m₀.packages m.translators m₀.translators codes e c.loop-row.invariant.1
-    c.loop-row.invariant.2 c.in-err-fill-row.ensures.answer)
+    c.loop-row.invariant.2 c.in_err-fill_row.ensures.answer)

@@ -10,16 +10,16 @@ pub loop-column-preserved : goal.loop-column-preserved
 loop-column-preserved g c =
     let limit = g.B.Book.limit in
     let m = g.B.Reading.meaning c.loop-column.book in
-    let m' = g.B.Reading.meaning c.put-code.new.book in
+    let m' = g.B.Reading.meaning c.put_code.new.book in
     let k = c.args.row in
     let l = c.loop-column.column in
-    let code = c.code-at-code.result in
-    let after = c.put-code.ensures.after in
+    let code = c.code_at-code.result in
+    let after = c.put_code.ensures.after in
     let sizes = c.translators-translators.ensures ∙ sym c.loop-column.invariant.2 in
     let a : k < m.packages = omega (arith, c.requires.row, c.loop-column.invariant.1) in
     let b : l < m.translators = omega (arith, sizes) in (
       put_more limit c.args.codes.now k l m c.loop-column.invariant.0 a b c.translators-translators.result code sizes
-          c.code-at-code.ensures m' c.put-code.result c.put-code.ensures.answer c.in-ok-put-code.was after,
+          c.code_at-code.ensures m' c.put_code.result c.put_code.ensures.answer c.in_ok-put_code.was after,
       kept_packages limit m m' (k + 1) (l + 1) code after ∙ c.loop-column.invariant.1,
       kept_translators limit m m' (k + 1) (l + 1) code after ∙ c.loop-column.invariant.2,
     )
@@ -35,28 +35,28 @@ returns g c =
       answer = subst (λ n. Partly g.B.Book.limit c.args.codes.now c.args.row n m) e c.loop-column.invariant.0;
     }
 
-pub returns-in-err-put-code : goal.returns-in-err-put-code
-returns-in-err-put-code g c =
+pub returns-in_err-put_code : goal.returns-in_err-put_code
+returns-in_err-put_code g c =
     let limit = g.B.Book.limit in
     let m = g.B.Reading.meaning c.loop-column.book in
-    let m' = g.B.Reading.meaning c.put-code.new.book in
+    let m' = g.B.Reading.meaning c.put_code.new.book in
     let k = c.args.row in
     let l = c.loop-column.column in
-    let code = c.code-at-code.result in
-    let after = c.put-code.ensures.after in
+    let code = c.code_at-code.result in
+    let after = c.put_code.ensures.after in
     let sizes = c.translators-translators.ensures ∙ sym c.loop-column.invariant.2 in
     let a : k < m.packages = omega (arith, c.requires.row, c.loop-column.invariant.1) in
     let b : l < m.translators = omega (arith, sizes) in
     let m₀ = g.B.Reading.meaning c.args.book.now in
-    let e = c.in-err-put-code.field-0.0 in
+    let e = c.in_err-put_code.field-0.0 in
     record {
       packages = kept_packages limit m m' (k + 1) (l + 1) code after ∙ c.loop-column.invariant.1;
       translators = kept_translators limit m m' (k + 1) (l + 1) code after ∙ c.loop-column.invariant.2;
       answer =
-          handed_on (Partly limit c.args.codes.now k m'.translators m') (Overfull limit m₀.packages m₀.translators c.args.codes.now) c.from-residual.result e
-          c.from-residual.ensures.1
+          handed_on (Partly limit c.args.codes.now k m'.translators m') (Overfull limit m₀.packages m₀.translators c.args.codes.now) c.from_residual.result e
+          c.from_residual.ensures.1
           (in_sizes limit m.packages m₀.packages m.translators m₀.translators c.args.codes.now e
           c.loop-column.invariant.1 c.loop-column.invariant.2
           (put_overfull limit c.args.codes.now k l m c.loop-column.invariant.0 a b c.translators-translators.result code sizes
-          c.code-at-code.ensures c.put-code.result e c.put-code.ensures.answer c.in-err-put-code.was));
+          c.code_at-code.ensures c.put_code.result e c.put_code.ensures.answer c.in_err-put_code.was));
     }

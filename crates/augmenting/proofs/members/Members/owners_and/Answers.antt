@@ -3,8 +3,8 @@ use Rattle.std.proofs.lemmas.List.{get_or_past}
 use Rattle.std.proofs.lemmas.Bool.{cases_lt, both_ways}
 use Rattle.std.proofs.Common.{false, ⊎_elim, arith}
 
-pub invariant-of-result : goal.invariant-of-result
-invariant-of-result c = (c.loop-j.invariant.0, tt)
+pub invariant_of-result : goal.invariant_of-result
+invariant_of-result c = record { full = c.loop-j.invariant.0 }
 
 pub returns : goal.returns
 returns c =

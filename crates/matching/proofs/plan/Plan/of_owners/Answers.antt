@@ -26,21 +26,18 @@ loop-j-preserved c =
       )
     ]
 
-pub invariant-of-result : goal.invariant-of-result
-invariant-of-result c =
+pub invariant_of-result : goal.invariant_of-result
+invariant_of-result c =
     let o = c.args.owner.now in
     let ns = c.loop-j.numbers in
     let told = c.told-owner in
-    let r : ReadsOff o ns = noted_all o ns c.loop-j.j (omega (arith, told)) c.loop-j.invariant.1 in (
-      c.requires.some,
-      (
-        c.loop-j.invariant.0,
-        (
-          (λ k l. let y = numbered c.args.packages o ns c.requires.once r k l in (y.0, let z = y.1 in omega (arith, z, told))),
-          ((λ k l h g e. never_twice c.args.packages o ns c.requires.once r k l h g e), tt),
-        ),
-      ),
-    )
+    let r : ReadsOff o ns = noted_all o ns c.loop-j.j (omega (arith, told)) c.loop-j.invariant.1 in
+    record {
+      few = c.requires.some;
+      full = c.loop-j.invariant.0;
+      numbered = λ k l. let y = numbered c.args.packages o ns c.requires.once r k l in (y.0, let z = y.1 in omega (arith, z, told));
+      apart = λ k l h g e. never_twice c.args.packages o ns c.requires.once r k l h g e;
+    }
 
 pub returns : goal.returns
 returns c =

@@ -10,7 +10,7 @@ loop-translator-preserved g c plain =
     let i = c.loop-translator.translator-index in
     let ns = c.args.plan.now in
     let a = c.loop-translator.invariant plain in
-    let b = c.in-ok-write.ensures.shows a.plain refl in
+    let b = c.in_ok-write.ensures.writes a.plain refl in
     has_written_of_eq g.W.Write.write_str_gives _ _ _ _
     (flat_map_more spaced [] (take i ns) (get_or ns i 0) ∙ ap (flat_map spaced) (sym (take_more ns i 0 (omega arith))))
     (has_written_append g.W.Write.write_str_gives _ _ _ _ _ a b)

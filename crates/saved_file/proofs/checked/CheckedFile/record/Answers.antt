@@ -5,4 +5,4 @@ use Rattle.std.proofs.Common.{arith}
 pub returns : goal.returns
 returns c =
     record_of_number c.args.self.now.file.now c.args.number c.args.self.now.count c.from.result
-    c.front-record.result c.from.ensures (omega arith) (omega arith) (omega arith) c.front-record.ensures
+    c.front_record.result c.from.ensures (omega arith) (omega arith) (omega arith) c.front_record.ensures

@@ -7,26 +7,26 @@ use Rattle.std.proofs.Common.{rules}
 
 pub returns : goal.returns
 returns g c =
-    let h = c.in-ok-count.ensures in
+    let h = c.in_ok-count.ensures in
     record {
       told = search rules;
       accepted =
           right_is_the_file g.K.Kind.number g.K.Kind.valid c.args.sizes.packages c.args.sizes.translators
-          c.args.file.now c.args.sizes.within (λ k. (c.type-inv.file k).fits) h.1;
+          c.args.file.now c.args.sizes.within (λ k. (c.type_inv.file k).fits) h.1;
       once = right_or_one_fault;
       same = same_grades_same_bytes;
     }
 
-pub returns-in-err-count : goal.returns-in-err-count
-returns-in-err-count g c =
-    let p = err_from_is_err_and c.from-residual.result c.from-residual.ensures.1 in
-    let h = c.in-err-count.ensures in
+pub returns-in_err-count : goal.returns-in_err-count
+returns-in_err-count g c =
+    let p = err_from_is_err_and c.from_residual.result c.from_residual.ensures.1 in
+    let h = c.in_err-count.ensures in
     record {
       told = rw (p.1, p.2) h;
       accepted =
           rw p.1
           (not_a_file g.K.Kind.number g.K.Kind.valid c.args.sizes.packages c.args.sizes.translators
-          c.args.file.now c.in-err-count.field-0.0 h);
+          c.args.file.now c.in_err-count.field-0.0 h);
       once = right_or_one_fault;
       same = same_grades_same_bytes;
     }

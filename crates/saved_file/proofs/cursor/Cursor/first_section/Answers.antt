@@ -4,30 +4,30 @@ use Rattle.file_format.specs.Rules.{just, first_count}
 use Rattle.std.proofs.lemmas.Result.{err_from_is_err_and}
 use Rattle.std.proofs.Common.{rules}
 
-pub returns-in-err-first-count : goal.returns-in-err-first-count
-returns-in-err-first-count g c =
-    let p = err_from_is_err_and c.from-residual.result c.from-residual.ensures.1 in
+pub returns-in_err-first_count : goal.returns-in_err-first_count
+returns-in_err-first_count g c =
+    let p = err_from_is_err_and c.from_residual.result c.from_residual.ensures.1 in
     record {
       told =
           rw (p.1, p.2)
           (in_first_count
           (just g.K.Kind.number g.K.Kind.valid c.args.sizes.packages c.args.sizes.translators)
-          c.args.self.now.file.now c.in-err-first-count.field-0.0 c.in-err-first-count.ensures.value);
+          c.args.self.now.file.now c.in_err-first_count.field-0.0 c.in_err-first_count.ensures.value);
       file = search rules;
     }
 
-pub returns-in-err-sheet-record-of : goal.returns-in-err-sheet-record-of
-returns-in-err-sheet-record-of g c =
+pub returns-in_err-sheet_record_of : goal.returns-in_err-sheet_record_of
+returns-in_err-sheet_record_of g c =
     let e = just g.K.Kind.number g.K.Kind.valid c.args.sizes.packages c.args.sizes.translators in
     let p =
-    err_from_is_err_and c.from-residual-in-err-sheet-record-of.result c.from-residual-in-err-sheet-record-of.ensures.1 in
+    err_from_is_err_and c.from_residual-in_err-sheet_record_of.result c.from_residual-in_err-sheet_record_of.ensures.1 in
     record {
       told =
           rw (p.1, p.2)
-          (in_sheet_record e c.args.self.now.file.now c.first-count.new.self.file.now
-          c.first-count.ensures.file
-          (right_here e c.args.self.now.file.now first_count tt tt c.in-ok-first-count.ensures.value)
-          c.in-err-sheet-record-of.field-0.0 c.in-err-sheet-record-of.ensures.value);
+          (in_sheet_record e c.args.self.now.file.now c.first_count.new.self.file.now
+          c.first_count.ensures.file
+          (right_here e c.args.self.now.file.now first_count tt tt c.in_ok-first_count.ensures.value)
+          c.in_err-sheet_record_of.field-0.0 c.in_err-sheet_record_of.ensures.value);
       file = search rules;
     }
 
@@ -37,9 +37,9 @@ returns g c =
     record {
       told = (
         search rules,
-        right_here e c.args.self.now.file.now first_count tt tt c.in-ok-first-count.ensures.value,
-        right_sheet_record e c.args.self.now.file.now c.first-count.new.self.file.now
-            c.first-count.ensures.file c.in-ok-sheet-record-of.ensures.value,
+        right_here e c.args.self.now.file.now first_count tt tt c.in_ok-first_count.ensures.value,
+        right_sheet_record e c.args.self.now.file.now c.first_count.new.self.file.now
+            c.first_count.ensures.file c.in_ok-sheet_record_of.ensures.value,
       );
       file = search rules;
     }

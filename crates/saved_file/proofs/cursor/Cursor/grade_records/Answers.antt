@@ -5,9 +5,9 @@ use Rattle.file_format.specs.Layout.{count_in}
 use Rattle.file_format.specs.Rules.{just}
 use Rattle.std.proofs.lemmas.Result.{err_from_is_err_and}
 
-pub returns-in-err-next-grade-record : goal.returns-in-err-next-grade-record
-returns-in-err-next-grade-record g c =
-    let p = err_from_is_err_and c.from-residual.result c.from-residual.ensures.1 in
+pub returns-in_err-next_grade_record : goal.returns-in_err-next_grade_record
+returns-in_err-next_grade_record g c =
+    let p = err_from_is_err_and c.from_residual.result c.from_residual.ensures.1 in
     let k : c.loop-done.done < count_in c.args.self.now.file.now = omega (arith, c.requires.count.0) in
     record {
       told =
@@ -16,8 +16,8 @@ returns-in-err-next-grade-record g c =
           (just g.K.Kind.number g.K.Kind.valid c.args.sizes.packages c.args.sizes.translators)
           c.args.self.now.file.now c.loop-done.self.file.now c.loop-done.done c.loop-done.self.at
           c.loop-done.before c.loop-done.invariant.0 c.loop-done.invariant.1 c.loop-done.invariant.2 c.requires.first
-          c.requires.sheet c.requires.second c.loop-done.invariant.3 k c.in-err-next-grade-record.field-0.0
-          c.in-err-next-grade-record.ensures.value);
+          c.requires.sheet c.requires.second c.loop-done.invariant.3 k c.in_err-next_grade_record.field-0.0
+          c.in_err-next_grade_record.ensures.value);
       file = search rules;
     }
 
@@ -27,7 +27,7 @@ loop-done-preserved g c =
     let w =
     right_grade_record e c.args.self.now.file.now c.loop-done.self.file.now c.loop-done.done
     c.loop-done.self.at c.loop-done.before c.loop-done.invariant.0 c.loop-done.invariant.1
-    c.loop-done.invariant.2 c.in-ok-next-grade-record.field-0 c.in-ok-next-grade-record.ensures.value in (
+    c.loop-done.invariant.2 c.in_ok-next_grade_record.field-0 c.in_ok-next_grade_record.ensures.value in (
       search rules,
       search rules,
       w.1,

@@ -13,18 +13,18 @@ returns g c =
     let q = opening_of g.B.Book.limit g.K.Kind.number g.K.Kind.valid g.K.Kind.above g.B.Reading.meaning c.args.self.now in
     let s = standing_of g.B.Reading.meaning c.args.self.now in
     record {
-      ran = λ o h r. ran_more o q h s _ _ _ _ r (c.answer-to.ensures (ran_fits o h q s r));
+      ran = λ o h r. ran_more o q h s _ _ _ _ r (c.answer_to.ensures (ran_fits o h q s r));
       refused = refused_for_the_first_reason;
       drawn = drawn_lines_have_the_best_plan;
       short = short_lines_have_no_plan;
-      drawn-or-short = drawn_where_there_is_a_plan;
+      drawn_or_short = drawn_where_there_is_a_plan;
       shown = shows_give_the_published_plan;
       done = other_calls_are_done;
       counted = every_slip_is_counted;
       same_answers = same_lines_same_answers;
-      come-off = refused_lines_come_off;
-      of-the-kind = standing_grades_are_of_the_kind;
-      come-back = saved_grades_come_back;
+      come_off = refused_lines_come_off;
+      of_the_kind = standing_grades_are_of_the_kind;
+      come_back = saved_grades_come_back;
       loaded = loaded_files_are_saved_ones;
       same_plan = same_grades_same_plan;
     }

@@ -7,7 +7,7 @@ returns-in-Ok g c plan set =
     let gate = c.in-Ok.ensures in
     load_runs (opening_of g.B.Book.limit g.K.Kind.number g.K.Kind.valid g.K.Kind.above g.B.Reading.meaning c.args.self.now)
     (standing_of g.B.Reading.meaning c.args.self.now) c.args.role c.args.file.now plan set _ _ gate.0 gate.1 gate.2
-    c.load-now.result c.load-now.ensures
+    c.load_now.result c.load_now.ensures
 
 pub returns-in-Err : goal.returns-in-Err
 returns-in-Err g c plan set =

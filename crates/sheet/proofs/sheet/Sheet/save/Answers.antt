@@ -5,8 +5,8 @@ use Rattle.sheet.specs.Sheets.{opening_of, standing_of}
 pub returns : goal.returns
 returns g c =
     record {
-      answer = c.write-grades.ensures.answer;
-      after = c.write-grades.ensures.after;
+      answer = c.write_grades.ensures.answer;
+      after = c.write_grades.ensures.after;
       standing =
           λ o h r.
           file_stands o h

@@ -5,11 +5,11 @@ use Rattle.sheet.specs.Sheets.{opening_of, standing_of}
 pub returns : goal.returns
 returns g c =
     record {
-      answer = c.show-plan.ensures.answer;
-      written = c.show-plan.ensures.written;
+      answer = c.show_plan.ensures.answer;
+      written = c.show_plan.ensures.written;
       ran =
           λ fits set.
           show_runs (opening_of g.B.Book.limit g.K.Kind.number g.K.Kind.valid g.K.Kind.above g.B.Reading.meaning c.args.self.now)
-          (standing_of g.B.Reading.meaning c.args.self.now) c.args.role c.args.plan.now set fits c.show-plan.result
-          c.show-plan.new.plan c.show-plan.ensures.answer c.show-plan.ensures.written;
+          (standing_of g.B.Reading.meaning c.args.self.now) c.args.role c.args.plan.now set fits c.show_plan.result
+          c.show_plan.new.plan c.show_plan.ensures.answer c.show_plan.ensures.written;
     }

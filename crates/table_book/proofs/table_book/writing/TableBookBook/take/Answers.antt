@@ -16,7 +16,7 @@ returns c =
     let w = c.args.self.now.sizes.within in
     let done : take_answer (meaning_of p t codes) a b ≡ Ok tt =
     take_accepted (meaning_of p t codes) a b i
-    (stands p t codes a b c.code-at.result i c.code-at.ensures.value c.if-code-at-eq0.false) in
+    (stands p t codes a b c.code_at.result i c.code_at.ensures.value c.if-code_at-eq0.false) in
     record {
       answer = sym done;
       after =
