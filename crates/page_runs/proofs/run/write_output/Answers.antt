@@ -19,12 +19,12 @@ returns-in-Err c =
     ))
     c.tell_remark-in-Err.ensures
 
-pub returns-in_ok-tell_remark : goal.returns-in_ok-tell_remark
-returns-in_ok-tell_remark c =
+pub returns-in_ok-tell_remark-in-Ok : goal.returns-in_ok-tell_remark-in-Ok
+returns-in_ok-tell_remark-in-Ok c =
     made_map c.run_lines.result _ _
     (λ u w. (
       line_of Told.ok ++ w.0,
-      w.1 ∙ ap (λ (x : List ℕ). x ++ w.0) c.in_ok-tell_remark.ensures
+      w.1 ∙ ap (λ (x : List ℕ). x ++ w.0) c.in_ok-tell_remark-in-Ok.ensures
           ∙ append_assoc (string_bytes c.args.out.now) (line_of Told.ok) w.0,
       opening_follows c.args.input.now c.in-Some.first.now (left_of c.next.new.self) c.in-Open.packages
           c.in-Open.translators (said_of c.parse.result) (omega arith) (sym c.of-lines.ensures ∙ c.in-Some.ensures)

@@ -21,7 +21,7 @@ unreachable-requires-in-Err g c =
     spend_ends g.K.Kind.number g.K.Kind.valid g.K.Kind.above c.args.sizes.packages c.args.sizes.translators
     c.open_sheet-sheet.result c.load.new.self c.args.file.now c.open_sheet-sheet.ensures (c.in-Ok.ensures [] [])
     c.draw.new.self c.args.plan.now c.args.set.now c.draw.new.plan c.draw.new.set
-    c.in-Ok-draw.drawn c.in-Ok-draw.ensures c.in-Drawn.lowest c.in-Drawn.slip (c.in-Err.field-0-0, c.in-Err.-slip)
+    c.in-Ok-draw.drawn c.in-Ok-draw.ensures c.in-Drawn.lowest c.in-Drawn.slip (c.in-Err.field-0-0, c.in-Err._slip)
     c.withdraw.new.self c.in-Drawn.is (c.in-Err.ensures [] [])
 
 pub returns-in-Ok-withdraw : goal.returns-in-Ok-withdraw

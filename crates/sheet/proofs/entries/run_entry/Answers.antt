@@ -18,9 +18,9 @@ returns g c =
     (λ (z : Event). Ran o (z ∷ h) (opening_of g.B.Book.limit g.K.Kind.number g.K.Kind.valid g.K.Kind.above g.B.Reading.meaning c.call-outcome.new.self)
     (standing_of g.B.Reading.meaning c.call-outcome.new.self))
     (same_event c.line_of-line.result e.ask (vec_items e.file) (vec_items e.plan) (vec_items e.set)
-    c.call-outcome.new.plan c.call-outcome.new.set c.deref-mut.result.now c.deref-mut-2.result.now
+    c.call-outcome.new.plan c.call-outcome.new.set c.deref_mut.result.now c.deref_mut-2.result.now
     c.call-outcome.result c.ended.result _ _
     (λ p s. c.line_of-line.ensures p s ∙ ap (λ (f : List ℕ). asked_in e.ask f p s) c.deref.ensures.value)
-    c.deref-mut.ensures.value c.deref-mut-2.ensures.value c.ended.ensures
+    c.deref_mut.ensures.value c.deref_mut-2.ensures.value c.ended.ensures
     (with_items_is e.plan c.call-outcome.new.plan long) (with_items_is e.set c.call-outcome.new.set wide))
     (c.call-outcome.ensures.ran o h r)
