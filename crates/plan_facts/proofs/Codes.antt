@@ -9,8 +9,8 @@ pub points_in_words : PointsInWords
 points_in_words a b = (
   λ w. and_from (leb 1 a) (leb a 1000) (le-leb 1 a w.0) (le-leb a 1000 w.1),
   λ v. let w = and_parts (leb 1 a) (leb a 1000) v in (leb-true 1 a w.0, leb-true a 1000 w.1),
-  λ v w l. lt-ltb b a l,
-  λ h. ltb-true b a h,
+  λ v w l. and_from (valid_points a && valid_points b) (ltb b a) (and_from (valid_points a) (valid_points b) v w) (lt-ltb b a l),
+  λ h. ltb-true b a (and_parts (valid_points a && valid_points b) (ltb b a) h).1,
 )
 
 abbrev in_range : ℕ → ℕ → Bool
