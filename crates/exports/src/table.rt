@@ -36,7 +36,7 @@ pub(crate) fn pairs_of(sizes: Sizes) -> usize
 }
 
 impl<C: Codes> Reading for CodeTable<C> {
-    ghost meaning = { table_meaning items };
+    ghost meaning = { table_meaning C.items };
 
     ghost sound = { Prim.search rules };
 

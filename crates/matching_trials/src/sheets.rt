@@ -148,7 +148,8 @@ fn ratings_by_class_and_days(rt: HostRuntime) -> Result<(), Fail> {
         ],
     )?;
     has_plan::<Ratings>(&rt, &rated, 5120002, &[1, 2])?;
-    has_no_plan::<Points>(&rt, &rated).note("the last two codes are no points")
+    // the last two codes are no points
+    has_no_plan::<Points>(&rt, &rated)
 }
 
 #[test]
