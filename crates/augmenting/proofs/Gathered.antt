@@ -1,6 +1,6 @@
 -- The set of a package that is left over with the owners of the translators tried: one more than
 -- these, and in any wider pattern that reaches no others exactly one more than it reaches.
-use Rattle.std.proofs.Common.{◌≡◌, ℕ, ◌+◌, ◌-◌, ◌<◌, ◌≤◌, Bool, true, false, ◌&&◌, ◌⊎◌, List, length, get_or, sym, refl, ap, ◌∙◌, ⊎_elim, arith}
+use Rattle.std.proofs.Common.{◌≡◌, ℕ, ◌+◌, ◌-◌, ◌<◌, ◌≤◌, Bool, true, false, ◌&&◌, List, length, get_or, sym, refl, ap, ◌∙◌, ⊎_elim, arith}
 use Rattle.augmenting.proofs.Counts.{any_from, any_same, from_any, count_same, count_without, pigeon, without, without_other, without_same}
 use Rattle.augmenting.specs.Assigned.{Assigns}
 use Rattle.augmenting.specs.Counting.{count}

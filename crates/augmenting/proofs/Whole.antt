@@ -1,5 +1,5 @@
 -- Whole matchings: one package released, and the same package placed first.
-use Rattle.std.proofs.Common.{◌≡◌, ℕ, ◌+◌, ◌-◌, ◌<◌, ◌≤◌, Bool, true, false, ◌⊎◌, List, get_or, sym, refl, ap, ◌∙◌, ⊎_elim, arith}
+use Rattle.std.proofs.Common.{◌≡◌, ℕ, ◌+◌, ◌-◌, ◌<◌, ◌≤◌, Bool, true, false, List, get_or, sym, refl, ap, ◌∙◌, ⊎_elim, arith}
 use Rattle.augmenting.proofs.Blocked.{blocked}
 use Rattle.augmenting.specs.Assigned.{Assigns, Complete, Least, PlacedFirst}
 use Rattle.augmenting.specs.Owners.{Augmented, Closed, Free, Has, Kept, Matching, Tried, seen}

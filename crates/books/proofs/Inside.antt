@@ -1,5 +1,5 @@
 -- A pair inside the sizes, as four orders of numbers.
-use Rattle.std.proofs.Common.{◌≡◌, ℕ, ◌≤◌, true, false, ◌&&◌, leb, Some, None, Option, sym, ◌∙◌, ⊎_elim, arith}
+use Rattle.std.proofs.Common.{◌≡◌, ℕ, ◌≤◌, true, ◌&&◌, leb, Some, None, Option, sym, ◌∙◌, ⊎_elim, arith}
 use Rattle.books.specs.Limits.{inside}
 use Rattle.books.specs.Meaning.{Meaning, Sound}
 use Rattle.std.proofs.lemmas.Bool.{and_parts, leb-true, cases_Bool}

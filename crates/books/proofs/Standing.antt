@@ -1,5 +1,5 @@
 -- Counting the grades that stand: one step of a loop, one changed pair, none, and at most how many.
-use Rattle.std.proofs.Common.{◌≡◌, ℕ, zero, suc, ◌+◌, ◌*◌, ◌<◌, ◌≤◌, true, false, ◌&&◌, eqb, ◌⊎◌, Some, None, Option, sym, refl, ap, ◌∙◌, inl, inr, ⊎_elim, suc-mul, add-one, arith}
+use Rattle.std.proofs.Common.{◌≡◌, ℕ, zero, suc, ◌+◌, ◌*◌, ◌≤◌, true, false, ◌&&◌, eqb, ◌⊎◌, Some, None, Option, refl, ap, ◌∙◌, inl, inr, ⊎_elim, suc-mul, add-one, arith}
 use Rattle.books.proofs.Inside.{lies}
 use Rattle.books.specs.Limits.{inside}
 use Rattle.books.specs.Meaning.{one, in_row, standing, changed, Meaning, Sound, Empty, count}

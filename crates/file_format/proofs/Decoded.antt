@@ -1,5 +1,5 @@
 -- A right string of bytes is the file of the grades in it.
-use Rattle.std.proofs.Common.{◌≡◌, ℕ, zero, suc, ◌+◌, ◌-◌, ◌*◌, ◌^◌, ◌<◌, ◌≤◌, Bool, true, false, cond, ◌&&◌, eqb, leb, ◌⊎◌, List, ◌++◌, length, get_or, take, drop, Some, None, Option, sym, refl, ap, ◌∙◌, subst, ⊎_elim, arith, take-add}
+use Rattle.std.proofs.Common.{◌≡◌, ℕ, zero, suc, ◌+◌, ◌-◌, ◌*◌, ◌^◌, ◌<◌, ◌≤◌, Bool, true, false, cond, ◌&&◌, eqb, leb, List, ◌++◌, length, get_or, take, drop, Some, None, Option, sym, refl, ap, ◌∙◌, subst, ⊎_elim, arith, take-add}
 use Rattle.books.proofs.Standing.{changed_same, changed_other, standing_changed, standing_empty}
 use Rattle.books.specs.Limits.{Within, inside}
 use Rattle.books.specs.Meaning.{one, changed, standing}
@@ -8,7 +8,7 @@ use Rattle.books.proofs.Inside.{Lies, lies}
 use Rattle.file_format.proofs.Orders.{Before, before_true, before_chain, before_apart, not_before}
 use Rattle.file_format.proofs.Pushed.{grades_push, grades_none}
 use Rattle.file_format.specs.FileOf.{grade_bytes, grades_bytes, grades_upto, grade_in, head_bytes, file_of, Graded}
-use Rattle.file_format.specs.Layout.{after, last_of, record_in, start_of, whole, count_in, sheet_in, two_bytes, before}
+use Rattle.file_format.specs.Layout.{after, last_of, record_in, start_of, whole, count_in, sheet_in, two_bytes}
 use Rattle.file_format.specs.Laws.{Bytes}
 use Rattle.file_format.specs.Rules.{just, Right, RightPart, RecordsRight, first_count, sheet_record, second_count, grade_record, the_end}
 use Rattle.refusals.specs.declared.fault.Cause.{Cause}

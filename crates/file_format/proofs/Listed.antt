@@ -2,13 +2,13 @@
 use Rattle.std.proofs.Common.{◌≡◌, ℕ, zero, suc, ◌+◌, ◌-◌, ◌^◌, ◌<◌, ◌≤◌, Bool, true, false, cond, eqb, ◌⊎◌, List, [], ◌∷◌, ◌++◌, length, drop, Some, None, Option, sym, refl, ap, ◌∙◌, subst, inl, inr, ⊎_elim, arith}
 use Rattle.books.proofs.Standing.{changed_same, changed_other}
 use Rattle.books.specs.Limits.{inside}
-use Rattle.books.specs.Meaning.{one, changed}
+use Rattle.books.specs.Meaning.{changed}
 use Rattle.file_format.proofs.Bytes.{four_again}
 use Rattle.file_format.proofs.Decoded.{Good}
 use Rattle.books.proofs.Inside.{Lies, lies}
 use Rattle.file_format.proofs.Orders.{Before, true_before, before_apart}
 use Rattle.file_format.specs.FileOf.{grade_bytes, grades_upto}
-use Rattle.file_format.specs.Layout.{after, last_of, record_in, six_bytes, start_of, whole, before}
+use Rattle.file_format.specs.Layout.{after, last_of, record_in, six_bytes, start_of}
 use Rattle.file_format.specs.declared.records.GradeRecord.{GradeRecord}
 use Rattle.std.proofs.lemmas.List.{drop-append-le, drop_at, length-append, length-drop}
 use Rattle.std.proofs.lemmas.Bool.{cases_eq, cond-false, cond-true, ne_eqb, eq-eqb, true≢false}

@@ -1,5 +1,5 @@
 -- A grade put after all others adds its record at the end of the bytes.
-use Rattle.std.proofs.Common.{◌≡◌, ℕ, zero, suc, ◌+◌, ◌≤◌, List, [], ◌++◌, Some, None, Option, refl, ap, ◌∙◌, ⊎_elim, arith}
+use Rattle.std.proofs.Common.{◌≡◌, ℕ, zero, suc, ◌≤◌, List, [], ◌++◌, Some, None, Option, refl, ap, ◌∙◌, ⊎_elim, arith}
 use Rattle.file_format.proofs.Orders.{Before}
 use Rattle.file_format.specs.FileOf.{grade_bytes, of_grade, row_bytes, grades_bytes}
 use Rattle.std.proofs.lemmas.List.{append-nil, append_assoc}

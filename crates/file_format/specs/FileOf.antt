@@ -1,5 +1,5 @@
 -- The bytes of a saved file: a kind number, sizes and a partial map determine them.
-use Rattle.std.specs.Prelude.{◌≡◌, ℕ, zero, suc, ◌+◌, ◌/◌, ◌%◌, ◌^◌, ◌<◌, Bool, true, false, List, [], ◌∷◌, ◌++◌, Some, None, Option}
+use Rattle.std.specs.Prelude.{◌≡◌, ℕ, zero, suc, ◌/◌, ◌%◌, ◌^◌, ◌<◌, Bool, true, false, List, [], ◌∷◌, ◌++◌, Some, None, Option}
 use Rattle.books.specs.Limits.{Within, inside}
 use Rattle.books.specs.Meaning.{changed, standing}
 use Rattle.file_format.specs.Layout.{count_in, record_in}

@@ -1,7 +1,7 @@
 -- What the order of a kind gives: never both ways, never itself, and the same code where neither.
-use Rattle.std.proofs.Common.{◌≡◌, ℕ, Bool, true, false, eqb, sym, refl, ◌∙◌, ⊎_elim}
+use Rattle.std.proofs.Common.{◌≡◌, ℕ, Bool, true, false, eqb, sym, refl, ⊎_elim}
 use Rattle.grades.specs.Order.{Order, exactly_one}
-use Rattle.std.proofs.lemmas.Bool.{eqb-true, eq-eqb, cases_Bool, both_ways}
+use Rattle.std.proofs.lemmas.Bool.{eqb-true, cases_Bool, both_ways}
 
 not_second : (a b c : Bool) → exactly_one a b c ≡ true → a ≡ true → b ≡ false
 not_second true true c e h = sym e

@@ -5,7 +5,7 @@ use Rattle.books.proofs.Standing.{standing_below, changed_same, changed_other}
 use Rattle.books.specs.Limits.{inside, Within}
 use Rattle.books.specs.Meaning.{Meaning, changed, with_grade, standing}
 use Rattle.std.proofs.lemmas.List.{get_or-replicate, get_or_past, get_or-set_same, get_or-set_other, length-replicate}
-use Rattle.std.proofs.lemmas.Bool.{cases_lt, cases_eq, cases_Bool, cond-true, cond-false, both_ways, ne_eqb}
+use Rattle.std.proofs.lemmas.Bool.{cases_lt, cases_eq, cases_Bool, cond-true, cond-false, ne_eqb}
 use Rattle.table_book.specs.Cells.{place, grade_in}
 use Rattle.table_book.specs.Table.{table_grade}
 

@@ -1,4 +1,4 @@
-use Rattle.std.proofs.Common.{◌≡◌, ◌+◌, ◌-◌, ◌*◌, ◌^◌, ◌<◌, ◌≤◌, true, false, ◌&&◌, leb, length, get_or, sym, ap, ◌∙◌, pow-suc, add-one, arith}
+use Rattle.std.proofs.Common.{◌≡◌, ◌+◌, ◌*◌, ◌^◌, ◌<◌, true, ◌&&◌, leb, length, get_or, sym, ◌∙◌, pow-suc, add-one, arith}
 use Rattle.plain_text.proofs.Digits.{below_nine, value_more, digits_more, no_digit, all_digits}
 use Rattle.plain_text.proofs.numbers.numeral.Goals as goal
 use Rattle.plain_text.proofs.numbers.numeral.Goals.{then-b-lt48-via-then-b-lt48, then-b-lt48-via-else-b-lt48+then-b-gt57}

@@ -3,7 +3,7 @@ use Rattle.page_text.specs.Replies.{spaced}
 use Rattle.std.proofs.Output.{has_written_append, has_written_of_eq}
 use Rattle.std.proofs.lemmas.List.{flat_map_more, take_more, take_all}
 use Rattle.std.specs.List.{flat_map}
-use Rattle.std.proofs.Common.{◌≡◌, List, [], get_or, take, sym, refl, ap, ◌∙◌, arith}
+use Rattle.std.proofs.Common.{[], get_or, take, sym, refl, ap, ◌∙◌, arith}
 
 pub loop-translator-preserved : goal.loop-translator-preserved
 loop-translator-preserved g c plain =

@@ -2,7 +2,7 @@ use Rattle.page_text.proofs.reply.text.ReplyDisplay.fmt.Goals as goal
 use Rattle.page_text.specs.Replies.{text_of, told_of}
 use Rattle.page_text.specs.declared.reply.Reply.{Reply}
 use Rattle.std.proofs.Output.{has_written_append, has_written_of_eq}
-use Rattle.std.proofs.Common.{◌≡◌, sym, refl, ap}
+use Rattle.std.proofs.Common.{sym, refl, ap}
 
 pub returns-in_ok-write-in-Drawn-clause-writes : goal.returns-in_ok-write-in-Drawn-clause-writes
 returns-in_ok-write-in-Drawn-clause-writes g c plain ok =
