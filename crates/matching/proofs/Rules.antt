@@ -1,5 +1,5 @@
 -- What a set with too few translators rules out, and that the best plan is one.
-use Rattle.std.proofs.Common.{◌≡◌, ℕ, zero, suc, ◌+◌, ◌-◌, ◌<◌, ◌≤◌, Bool, true, false, ◌⊎◌, List, length, get_or, Option, sym, ap, ◌∙◌, subst, ⊎_elim, arith}
+use Rattle.std.proofs.Common.{◌≡◌, ℕ, zero, suc, ◌+◌, ◌-◌, ◌<◌, ◌≤◌, Bool, true, false, List, length, get_or, Option, sym, ap, ◌∙◌, subst, ⊎_elim, arith}
 use Rattle.augmenting.proofs.Gathered.{ruled_out}
 use Rattle.augmenting.specs.Assigned.{Assigns}
 use Rattle.augmenting.specs.Sets.{OneFewer}

@@ -1,6 +1,5 @@
 -- A saved file brings its grades back, and a load takes only what a save writes.
-use Rattle.std.proofs.Common.{◌≡◌, ℕ, ◌+◌, ◌<◌, ◌≤◌, Bool, true, false, ◌⊎◌, List, [], ◌∷◌, get_or, take, is_some, Some, None, Option, sym, refl, ap, ◌∙◌, subst, inl, inr, ⊎_elim, arith}
-use Rattle.books.specs.Meaning.{standing}
+use Rattle.std.proofs.Common.{◌≡◌, ℕ, ◌+◌, ◌≤◌, Bool, true, false, List, [], ◌∷◌, get_or, take, is_some, Some, None, Option, sym, refl, ap, ◌∙◌, subst, arith}
 use Rattle.bottleneck.specs.Grades.{counted}
 use Rattle.file_format.proofs.Encoded.{file_count}
 use Rattle.file_format.proofs.Once.{right_or_one_fault}
@@ -16,10 +15,9 @@ use Rattle.pages.specs.Answers.{Right, Lawful, Page, Given, says_done, valid_onl
 use Rattle.pages.specs.Files.{file_at, SameForm, SavedGradesComeBack, LoadedFilesAreSavedOnes}
 use Rattle.pages.specs.Lines.{Opening, Line, Event, Call, Outcome}
 use Rattle.pages.specs.Reasons.{Reason, NoReason, file_expected, pair_of, slip_of, wants_idle, writes_plan, least_role, may}
-use Rattle.pages.specs.Standing.{Standing, Drawn, first_of, regraded, grade_by, grade_at, out_by, out_by_done, out_at, standing as stands}
-use Rattle.refusals.specs.declared.refusal.Refusal.{Refusal}
+use Rattle.pages.specs.Standing.{Standing, first_of, regraded, grade_by, grade_at, out_by, out_by_done, out_at, standing as stands}
 use Rattle.refusals.specs.declared.refusal.Refusal.TheVariants as refusal
-use Rattle.std.proofs.lemmas.Bool.{cases_Bool, both_ways}
+use Rattle.std.proofs.lemmas.Bool.{both_ways}
 
 none_from : (o : Option ℕ) → (is_some o ≡ true → ⊥) → o ≡ None
 none_from None h = refl

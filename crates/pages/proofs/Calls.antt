@@ -1,5 +1,5 @@
 -- Calls of other names differ, and calls of one name agree in what they are given.
-use Rattle.std.proofs.Common.{◌≡◌, ℕ, List, Some, None, Option, ap, arith}
+use Rattle.std.proofs.Common.{◌≡◌, ℕ, List, Some, None, arith}
 use Rattle.pages.specs.Lines.{Call}
 
 abbrev pub ordinal : Call → ℕ

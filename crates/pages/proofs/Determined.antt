@@ -1,13 +1,12 @@
 -- What stands and the line determine the answer, but for the choice of a set.
-use Rattle.std.proofs.Common.{◌≡◌, ℕ, ◌<◌, true, false, ◌⊎◌, List, ◌++◌, take, drop, Some, Option, sym, refl, ap, ◌∙◌, subst, inl, inr, ⊎_elim, arith}
+use Rattle.std.proofs.Common.{◌≡◌, ℕ, true, List, ◌++◌, take, drop, Some, Option, sym, ap, ◌∙◌, subst, ⊎_elim, arith}
 use Rattle.matching.proofs.Buffers.{counted_valid as code-valid}
 use Rattle.matching.proofs.Rules.{one_best}
-use Rattle.pages.proofs.Calls.{ordinal, same_file, same_some}
 use Rattle.pages.proofs.Numbers.{same_number}
-use Rattle.pages.specs.Answers.{Right, Lawful, Drawing, Lacking, Showing, Untouched, says_done, valid_only}
+use Rattle.pages.specs.Answers.{Right, Lawful, says_done, valid_only}
 use Rattle.pages.specs.Lines.{Opening, Line, Answer, Call, Outcome}
 use Rattle.pages.specs.Promises.{Alike, SetsAlike}
-use Rattle.pages.specs.Reasons.{Reason, FirstReason, NoReason, file_expected}
+use Rattle.pages.specs.Reasons.{Reason, FirstReason, file_expected}
 use Rattle.pages.specs.Standing.{Standing, Drawn}
 use Rattle.bottleneck.specs.Grades.{AllValid}
 use Rattle.file_format.proofs.Once.{right_or_one_fault}

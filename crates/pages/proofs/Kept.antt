@@ -1,18 +1,17 @@
 -- Every grade that stands on a page lies inside the sizes and is valid in the kind.
-use Rattle.std.proofs.Common.{◌≡◌, ℕ, ◌^◌, ◌<◌, Bool, true, false, ◌⊎◌, List, [], ◌∷◌, Some, None, Option, sym, refl, ap, ◌∙◌, subst, inl, inr, ⊎_elim, arith}
+use Rattle.std.proofs.Common.{◌≡◌, ℕ, ◌^◌, ◌<◌, Bool, true, false, ◌⊎◌, List, [], ◌∷◌, Some, None, Option, sym, refl, ap, ◌∙◌, subst, inl, inr, ⊎_elim}
 use Rattle.books.proofs.Standing.{changed_same, changed_other}
 use Rattle.books.specs.Limits.{inside}
 use Rattle.books.specs.Meaning.{changed}
 use Rattle.file_format.proofs.Once.{right_or_one_fault}
 use Rattle.file_format.proofs.RoundTrip.{right_is_the_file}
 use Rattle.file_format.specs.FileOf.{Graded, grade_in}
-use Rattle.file_format.specs.Laws.{Bytes}
 use Rattle.file_format.specs.Rules as rules
 use Rattle.pages.proofs.Calls.{never_some, same_some}
 use Rattle.pages.proofs.Off.{lawful}
-use Rattle.pages.specs.Answers.{Right, Lawful, Page, Given}
+use Rattle.pages.specs.Answers.{Right, Lawful, Given}
 use Rattle.pages.specs.Files.{StandingGradesAreOfTheKind}
-use Rattle.pages.specs.Lines.{Opening, Line, Event, Call, Outcome}
+use Rattle.pages.specs.Lines.{Opening, Line, Call, Outcome}
 use Rattle.pages.specs.Reasons.{Reason, NoReason, file_expected, pair_of}
 use Rattle.pages.specs.Standing.{Standing, first_of, regraded, grade_by, grade_at, standing}
 use Rattle.refusals.specs.declared.refusal.Refusal.TheVariants as refusal

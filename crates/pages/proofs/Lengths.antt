@@ -1,9 +1,9 @@
 -- Every plan that is out or published on a page has a translator for each package.
-use Rattle.std.proofs.Common.{◌≡◌, ℕ, List, [], ◌∷◌, length, take, Some, None, Option, sym, refl, ap, ◌∙◌}
+use Rattle.std.proofs.Common.{◌≡◌, ℕ, List, [], ◌∷◌, length, take, Some, Option, sym, ap, ◌∙◌}
 use Rattle.pages.proofs.Calls.{never_some, same_some}
 use Rattle.pages.specs.Answers.{Right, Page}
 use Rattle.pages.specs.Lines.{Opening, Event, Call, Outcome}
-use Rattle.pages.specs.Standing.{Standing, Drawn, out_by, out_by_done, out_at, published_by, published_by_done, published_at, standing}
+use Rattle.pages.specs.Standing.{Drawn, out_by, out_by_done, out_at, published_by, published_by_done, published_at, standing}
 
 abbrev Long : ℕ → Option Drawn → Type 0
 Long p out = (d : Drawn) → out ≡ Some d → length d.plan ≡ p

@@ -1,11 +1,11 @@
 -- Two pages with the same lines are answered alike, so a refused line comes off.
-use Rattle.std.proofs.Common.{◌≡◌, ℕ, List, [], ◌∷◌, ◌++◌, map, Option, sym, refl, ap, ◌∙◌, subst, arith}
+use Rattle.std.proofs.Common.{◌≡◌, ℕ, List, [], ◌∷◌, ◌++◌, sym, refl, subst, arith}
 use Rattle.pages.proofs.Determined.{determined}
 use Rattle.pages.proofs.Skips.{page_skip}
 use Rattle.pages.specs.Answers.{Right, Lawful, Page}
-use Rattle.pages.specs.Lines.{Opening, Line, Answer, Event, Call, Outcome}
+use Rattle.pages.specs.Lines.{Opening, Line, Event}
 use Rattle.pages.specs.Promises.{Alike, AllAlike, lines, SameLinesSameAnswers, RefusedLinesComeOff}
-use Rattle.pages.specs.Standing.{Standing, Drawn, grade_by, grade_at, out_by, out_at, published_by, published_at, standing}
+use Rattle.pages.specs.Standing.{Standing, grade_by, out_by, published_by, standing}
 
 -- what stands under two lines that are answered alike
 standing_more :

@@ -1,5 +1,5 @@
 -- A history grows by a line that is run.
-use Rattle.std.proofs.Common.{◌≡◌, ℕ, List, ◌∷◌, sym, refl, ap, ◌∙◌, subst}
+use Rattle.std.proofs.Common.{◌≡◌, ℕ, List, ◌∷◌, refl, ap, ◌∙◌, subst}
 use Rattle.pages.specs.Answers.{Right, Runs, Ran}
 use Rattle.pages.specs.Lines.{Opening, Line, Answer, Event}
 use Rattle.pages.specs.Standing.{Standing, next, standing}

@@ -1,5 +1,5 @@
 -- A refused line leaves all that stands as it was.
-use Rattle.std.proofs.Common.{◌≡◌, ℕ, List, [], ◌∷◌, ◌++◌, Option, sym, refl, ap, ◌∙◌, subst}
+use Rattle.std.proofs.Common.{◌≡◌, ℕ, List, [], ◌∷◌, ◌++◌, Option, ap, ◌∙◌, subst}
 use Rattle.pages.specs.Answers.{Right, Page}
 use Rattle.pages.specs.Lines.{Opening, Event, Outcome}
 use Rattle.pages.specs.Standing.{Standing, Drawn, grade_by, grade_at, out_by, out_at, published_by, published_at, standing}

@@ -1,12 +1,12 @@
 -- Draws, publishes, withdraws and slips, counted line by line.
-use Rattle.std.proofs.Common.{◌≡◌, ℕ, ◌+◌, Bool, true, false, cond, List, [], ◌∷◌, is_some, Some, None, Option, sym, refl, ap, subst, ⊎_elim, arith}
-use Rattle.pages.specs.Answers.{Right, Page, says_done}
-use Rattle.pages.specs.Lines.{Opening, Line, Answer, Event, Call, Outcome}
-use Rattle.pages.specs.Promises.{EverySlipIsCounted, draws, publishes, withdraws, slips_out, one_if_drawn, one_if_done, one_if_publish, one_if_withdraw}
+use Rattle.std.proofs.Common.{◌≡◌, ℕ, ◌+◌, true, false, cond, List, [], ◌∷◌, is_some, Some, Option, sym, refl, ap, subst, ⊎_elim, arith}
+use Rattle.pages.specs.Answers.{Right}
+use Rattle.pages.specs.Lines.{Opening, Line, Answer, Call, Outcome}
+use Rattle.pages.specs.Promises.{EverySlipIsCounted, one_if_drawn, one_if_done, one_if_publish, one_if_withdraw}
 use Rattle.pages.specs.Reasons.{Reason, NoReason, wants_idle, slip_of}
-use Rattle.pages.specs.Standing.{Standing, Drawn, out_by, out_by_done, out_at, standing}
+use Rattle.pages.specs.Standing.{Standing, Drawn, out_by, standing}
 use Rattle.refusals.specs.declared.refusal.Refusal.TheVariants as refusal
-use Rattle.std.proofs.lemmas.Bool.{cases_Bool, both_ways}
+use Rattle.std.proofs.lemmas.Bool.{cases_Bool}
 
 abbrev out_count : Option Drawn → ℕ
 out_count out = cond (is_some out) 1 0

@@ -1,17 +1,16 @@
 -- What each outcome tells.
-use Rattle.std.proofs.Common.{◌≡◌, ℕ, Bool, true, false, ◌⊎◌, List, ◌∷◌, take, Some, None, Option, sym, refl, ap, ◌∙◌, subst, inl, inr, arith}
+use Rattle.std.proofs.Common.{◌≡◌, ℕ, Bool, true, ◌⊎◌, List, ◌∷◌, take, Some, None, Option, sym, refl, ap, ◌∙◌, subst, inl, inr, arith}
 use Rattle.bottleneck.specs.Grades.{AllValid, counted, graded}
-use Rattle.file_format.specs.FileOf.{Graded}
 use Rattle.matching.proofs.Rules.{one_best}
 use Rattle.matching.specs.Plans.{BestPlan, FullPlan, NoPlan}
 use Rattle.pages.proofs.Calls.{ordinal}
 use Rattle.pages.proofs.Determined.{one_reason}
 use Rattle.pages.proofs.Kept.{standing_grades_are_of_the_kind}
 use Rattle.pages.proofs.Off.{lawful}
-use Rattle.pages.specs.Answers.{Right, Lawful, Page, Drawing, Lacking, Showing, Untouched, says_done, valid_only}
+use Rattle.pages.specs.Answers.{Right, Page, Drawing, Lacking, Showing, Untouched, says_done, valid_only}
 use Rattle.pages.specs.Files.{SameForm}
-use Rattle.pages.specs.Lines.{Opening, Line, Answer, Event, Call, Outcome}
-use Rattle.pages.specs.Reasons.{FirstReason, NoReason, slip_of}
+use Rattle.pages.specs.Lines.{Opening, Event, Call, Outcome}
+use Rattle.pages.specs.Reasons.{FirstReason, slip_of}
 use Rattle.pages.specs.Standing.{Standing, Drawn, standing, grade_at, published_at}
 use Rattle.pages.specs.Told.{RefusedForTheFirstReason, DrawnLinesHaveTheBestPlan, ShortLinesHaveNoPlan, DrawnWhereThereIsAPlan, ShowsGiveThePublishedPlan, OtherCallsAreDone, SameGradesSamePlan}
 use Rattle.refusals.specs.declared.refusal.Refusal.{Refusal}

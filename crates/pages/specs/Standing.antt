@@ -1,8 +1,8 @@
 -- What stands after a history, by the history alone: the grade of each pair, the drawn plan whose
 -- slip is out, and the published plan. A history lists its newest line first, so that the lines
 -- above a line are the rest of the list.
-use Rattle.std.specs.Prelude.{ℕ, ◌+◌, cond, ◌&&◌, List, [], ◌∷◌, take, is_some, Some, None, Option, ◌==◌}
-use Rattle.pages.specs.Lines.{Opening, Line, Answer, Event, Call, Outcome}
+use Rattle.std.specs.Prelude.{ℕ, cond, ◌&&◌, List, [], ◌∷◌, take, Some, None, Option, ◌==◌}
+use Rattle.pages.specs.Lines.{Line, Answer, Event, Call, Outcome}
 use Rattle.file_format.specs.FileOf.{grade_in}
 
 pub record Drawn : Type 0 where

@@ -1,8 +1,8 @@
 -- Codes read as points and as classes and days.
-use Rattle.std.proofs.Common.{◌≡◌, ℕ, ◌+◌, ◌*◌, ◌/◌, ◌%◌, ◌<◌, ◌≤◌, Bool, true, false, ◌&&◌, ◌||◌, eqb, ltb, leb, ◌⊎◌, is_some, Some, None, Option, sym, refl, ap, ◌∙◌, inl, inr, ⊎_elim, arith}
-use Rattle.grades.specs.Points.{above_points, valid_points}
+use Rattle.std.proofs.Common.{◌≡◌, ℕ, ◌+◌, ◌*◌, ◌/◌, ◌%◌, Bool, true, false, ◌&&◌, ◌||◌, eqb, ltb, leb, is_some, Some, None, sym, ap, ◌∙◌, inl, inr, ⊎_elim, arith}
+use Rattle.grades.specs.Points.{valid_points}
 use Rattle.grades.specs.Ratings.{above_rating, better, rating_of, valid_rating}
-use Rattle.plan_facts.specs.Codes.{Higher, PointsInWords, Rated, RatingsInWords}
+use Rattle.plan_facts.specs.Codes.{PointsInWords, Rated, RatingsInWords}
 use Rattle.std.proofs.lemmas.Bool.{and_from, and_parts, both_ways, cases_Bool, cond-false, cond-true, eq-eqb, eqb-true, le-leb, leb-true, lt-ltb, ltb-true, or_cases, or_left, or_right}
 
 pub points_in_words : PointsInWords

@@ -1,12 +1,11 @@
 -- Counting none, all and one; what is reached, and by which grades.
-use Rattle.std.proofs.Common.{◌≡◌, ℕ, zero, suc, ◌+◌, ◌-◌, ◌<◌, ◌≤◌, Bool, true, false, ◌&&◌, List, get_or, is_some, sym, refl, ap, ◌∙◌, ⊎_elim, arith}
+use Rattle.std.proofs.Common.{◌≡◌, ℕ, zero, suc, ◌+◌, ◌-◌, ◌<◌, ◌≤◌, Bool, true, false, ◌&&◌, get_or, is_some, sym, refl, ap, ◌∙◌, ⊎_elim, arith}
 use Rattle.augmenting.proofs.Counts.{any_from, any_same, bit, count_same, count_without, from_any, pigeon, without, without_other, without_same}
-use Rattle.augmenting.specs.Counting.{any, count}
+use Rattle.augmenting.specs.Counting.{count}
 use Rattle.augmenting.specs.Sets.{OneFewer, reached}
 use Rattle.bottleneck.proofs.Lowering.{some_graded, some_of}
 use Rattle.bottleneck.specs.Grades.{graded, graded_above, passes}
 use Rattle.matching.proofs.Rules.{assigned, no_full_plan}
-use Rattle.matching.specs.Plans.{FullPlan}
 use Rattle.plan_facts.specs.Plans.{TooFewTranslators}
 use Rattle.plan_facts.specs.Sets.{Counts, EmptySetsAreNeither, ExactlyOne, JoinedByGrades, ReachedByAMember, SetsEndAtTheLastPackage, TightSetsAreNotShort}
 use Rattle.std.proofs.lemmas.Bool.{and_from, and_parts, both_ways, cases_Bool, cases_eq}

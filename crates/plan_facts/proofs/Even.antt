@@ -1,8 +1,8 @@
 -- Sheets on which every pair has the same grade.
-use Rattle.std.proofs.Common.{◌≡◌, ℕ, zero, suc, ◌+◌, ◌-◌, ◌<◌, ◌≤◌, Bool, true, false, ◌⊎◌, List, [], ◌∷◌, length, get_or, is_some, Some, Option, sym, refl, ap, ◌∙◌, subst, inl, inr, ⊎_elim, arith}
+use Rattle.std.proofs.Common.{◌≡◌, ℕ, zero, suc, ◌+◌, ◌-◌, ◌<◌, ◌≤◌, Bool, true, List, [], ◌∷◌, length, get_or, is_some, Some, Option, sym, refl, ap, ◌∙◌, inl, ⊎_elim, arith}
 use Rattle.augmenting.specs.Counting.{count}
 use Rattle.augmenting.specs.Sets.{reached}
-use Rattle.bottleneck.specs.Grades.{AllValid, graded, graded_above, passes}
+use Rattle.bottleneck.specs.Grades.{graded, graded_above, passes}
 use Rattle.grades.proofs.Laws.{not_itself}
 use Rattle.grades.specs.Order.{Order}
 use Rattle.matching.proofs.Rules.{one_best}

@@ -1,14 +1,14 @@
 -- Where there is a full plan there is a best plan.
-use Rattle.std.proofs.Common.{◌≡◌, ℕ, zero, suc, ◌+◌, ◌<◌, ◌≤◌, Bool, true, false, ◌⊎◌, List, length, get_or, Option, sym, refl, ap, ◌∙◌, subst, inl, inr, ⊎_elim, arith}
+use Rattle.std.proofs.Common.{◌≡◌, ℕ, zero, suc, ◌+◌, ◌<◌, ◌≤◌, Bool, true, ◌⊎◌, List, length, get_or, Option, sym, ap, ◌∙◌, subst, inl, inr, ⊎_elim, arith}
 use Rattle.bottleneck.proofs.Ranks.{compared}
 use Rattle.bottleneck.specs.Grades.{AllValid, graded}
 use Rattle.grades.proofs.Laws.{not_itself}
 use Rattle.grades.specs.Order.{Order}
 use Rattle.matching.specs.Plans.{BestPlan, FirstBefore, FullPlan, LowestGrade}
-use Rattle.plan_facts.proofs.Finite.{Decided, Fits, Least, Ordered, decide_all, least}
+use Rattle.plan_facts.proofs.Finite.{Decided, Least, Ordered, decide_all, least}
 use Rattle.plan_facts.proofs.Lowest.{lowest_grade, same_lowest}
 use Rattle.plan_facts.specs.Plans.{BestPlanOrNone}
-use Rattle.std.proofs.lemmas.Bool.{both_ways, cases_Bool, cases_eq, cases_lt, cases_order}
+use Rattle.std.proofs.lemmas.Bool.{both_ways, cases_Bool, cases_eq, cases_lt}
 
 -- whether a list is a full plan
 full_or_not : (C : ℕ → ℕ → Bool) (p t : ℕ) (c : List ℕ) → Decided (FullPlan C p t c)

@@ -1,5 +1,5 @@
 -- Every full plan has one lowest grade.
-use Rattle.std.proofs.Common.{◌≡◌, ℕ, zero, suc, ◌+◌, ◌<◌, ◌≤◌, Bool, true, false, ◌⊎◌, List, length, get_or, is_some, Some, Option, sym, refl, ap, ◌∙◌, subst, inl, inr, ⊎_elim, arith}
+use Rattle.std.proofs.Common.{◌≡◌, ℕ, zero, suc, ◌+◌, ◌<◌, ◌≤◌, Bool, true, false, List, get_or, is_some, Some, Option, sym, ap, ◌∙◌, inl, inr, ⊎_elim, arith}
 use Rattle.bottleneck.proofs.Lowering.{some_graded}
 use Rattle.bottleneck.proofs.Ranks.{compared}
 use Rattle.bottleneck.specs.Grades.{AllValid, graded}

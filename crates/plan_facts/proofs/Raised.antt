@@ -1,10 +1,10 @@
 -- Grades that are all still there, the same or higher, have a bottleneck that is the same or higher.
-use Rattle.std.proofs.Common.{◌≡◌, ℕ, ◌+◌, ◌<◌, ◌≤◌, Bool, true, ◌⊎◌, List, length, get_or, is_some, Some, Option, sym, ap, ◌∙◌, subst, inl, inr, ⊎_elim, arith}
+use Rattle.std.proofs.Common.{◌≡◌, ℕ, ◌+◌, ◌<◌, Bool, true, ◌⊎◌, get_or, is_some, sym, ap, ◌∙◌, subst, inl, inr, ⊎_elim, arith}
 use Rattle.bottleneck.proofs.Lowering.{some_graded}
-use Rattle.bottleneck.specs.Grades.{AllValid, graded}
+use Rattle.bottleneck.specs.Grades.{graded}
 use Rattle.grades.specs.Order.{Order}
 use Rattle.matching.proofs.Rules.{repaired}
-use Rattle.matching.specs.Plans.{BestPlan, FullPlan, LowestGrade}
+use Rattle.matching.specs.Plans.{FullPlan}
 use Rattle.plan_facts.proofs.Lowest.{below_the_others, lowest_grade, same_grade}
 use Rattle.plan_facts.specs.Plans.{HigherGradesNeverLowerTheBottleneck}
 

@@ -1,8 +1,7 @@
 -- Sheets of one package.
-use Rattle.std.proofs.Common.{◌≡◌, ℕ, zero, suc, ◌+◌, ◌-◌, ◌<◌, ◌≤◌, Bool, true, false, ◌⊎◌, List, [], ◌∷◌, length, get_or, is_some, Some, None, Option, sym, refl, ap, ◌∙◌, subst, inl, inr, ⊎_elim, arith}
+use Rattle.std.proofs.Common.{◌≡◌, ℕ, zero, suc, ◌+◌, ◌<◌, ◌≤◌, Bool, true, false, ◌⊎◌, List, [], ◌∷◌, get_or, is_some, Some, None, Option, sym, refl, ap, ◌∙◌, inl, inr, ⊎_elim, arith}
 use Rattle.augmenting.specs.Counting.{count}
 use Rattle.augmenting.specs.Sets.{reached}
-use Rattle.bottleneck.proofs.Lowering.{some_graded}
 use Rattle.bottleneck.specs.Grades.{AllValid, graded, graded_above, passes}
 use Rattle.grades.proofs.Laws.{not_itself}
 use Rattle.grades.specs.Order.{Order}

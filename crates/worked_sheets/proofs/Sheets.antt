@@ -3,13 +3,12 @@ use Rattle.std.proofs.Common.{◌≡◌, ℕ, Bool, true, false, ◌&&◌, eqb, 
 use Rattle.augmenting.specs.Counting.{any, count}
 use Rattle.books.proofs.Inside.{lies}
 use Rattle.books.specs.Limits.{Within, inside}
-use Rattle.books.specs.Meaning.{Sound}
-use Rattle.bottleneck.specs.Grades.{AllValid, graded, graded_above}
+use Rattle.bottleneck.specs.Grades.{graded, graded_above}
 use Rattle.std.proofs.lemmas.Bool.{and_parts, both_ways, cases_Bool, cond-false, cond-true, eqb-true, false≢true}
 use Rattle.worked_sheets.proofs.Plans.{beaten?, best_from, best?, first?, full?, lower?, lowest?, none_from, none?}
 use Rattle.worked_sheets.proofs.Ranges.{below?, every_each, every?, implies?, plans?, same?, sets?, some?}
 use Rattle.worked_sheets.proofs.Sets.{exactly_from, exactly?, one_fewer?}
-use Rattle.worked_sheets.specs.Right.{Each, EverySheetGivesItsAnswer, Gives, Right, above_in, grade_in, meaning, valid_in}
+use Rattle.worked_sheets.specs.Right.{EverySheetGivesItsAnswer, Gives, Right, above_in, grade_in, valid_in}
 use Rattle.worked_sheets.specs.Sheets.{Answer, Sheet, planned, sheets, short}
 
 unfoldable pub gives? : (ℕ → ℕ → Bool) → (ℕ → ℕ → Option ℕ) → ℕ → ℕ → Answer → Bool
