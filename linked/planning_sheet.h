@@ -1,4 +1,4 @@
-/* The planning sheet for C: link target/staticlib/libexports.a and the kit's lib/librattle_c.a.
+/* The planning sheet for C: link crates/exports/out/libexports.a and the kit's c/liblibc_c.a.
    README.md says what a caller must respect. Nothing checks these declarations against the source. */
 #ifndef PLANNING_SHEET_H
 #define PLANNING_SHEET_H

@@ -1,6 +1,5 @@
 pub mod Entries
 pub mod Meant
 pub mod Order
+pub mod Outside
 pub mod Table
-pub mod Means
-pub mod Pairs

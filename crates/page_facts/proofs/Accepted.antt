@@ -1,16 +1,15 @@
 -- Lines that no reason holds against.
-use Rattle.std.proofs.Common.{◌≡◌, ℕ, ◌<◌, ◌≤◌, List, ◌∷◌, is_some, refl, ap, ⊎_elim, arith}
+use Rattle.std.proofs.Common.{List, ◌∷◌, is_some, refl, ap, ⊎_elim, arith}
 use Rattle.file_format.proofs.Once.{right_or_one_fault}
 use Rattle.page_facts.proofs.Order.{cleared, grade_below, right_of, strike_below}
 use Rattle.page_facts.specs.Accepted.{Accepted, GoodDraws, GoodGrades, GoodLoads, GoodShows, GoodSlips, GoodStrikes}
-use Rattle.page_facts.specs.Order.{LetIn}
 use Rattle.pages.proofs.Clear.{Clear, all_clear}
 use Rattle.pages.proofs.Clears.{draw_clear, load_clear, show_clear, spend_clear}
 use Rattle.pages.proofs.Told.{refused_for_the_first_reason}
 use Rattle.pages.specs.Answers.{Page}
 use Rattle.pages.specs.Lines.{Opening, Event, Call}
 use Rattle.pages.specs.Reasons.{file_expected}
-use Rattle.pages.specs.Standing.{grade_at, out_at, standing as stands}
+use Rattle.pages.specs.Standing.{grade_at, standing as stands}
 use Rattle.std.proofs.lemmas.Bool.{both_ways}
 
 accepted : (o : Opening) (above : List Event) (e : Event) → Page o (e ∷ above) → Clear o (stands o.packages above) e.line 12 → Accepted e

@@ -1,9 +1,9 @@
 -- Answers that are alike, taken apart and put together.
-use Rattle.std.proofs.Common.{◌≡◌, ℕ, zero, suc, ◌+◌, ◌-◌, ◌<◌, ◌≤◌, ◌⊎◌, List, [], ◌∷◌, length, get_or, drop, sym, refl, ap, ◌∙◌, subst, inl, inr, ⊎_elim, arith}
+use Rattle.std.proofs.Common.{◌≡◌, ℕ, zero, suc, ◌+◌, ◌-◌, ◌<◌, ◌≤◌, List, [], ◌∷◌, length, get_or, drop, sym, refl, ap, ◌∙◌, subst, inl, inr, arith}
 use Rattle.page_facts.proofs.Ways.{kind_of}
 use Rattle.page_facts.specs.Alike.{AcceptedDraw, Agree, AlikeAnswersAgree, AlikeLineByLine, Equivalence}
 use Rattle.pages.specs.Lines.{Answer, Event, Outcome}
-use Rattle.pages.specs.Promises.{Alike, AllAlike, SetsAlike}
+use Rattle.pages.specs.Promises.{Alike, SetsAlike}
 use Rattle.std.proofs.lemmas.List.{ext_get_or, get_or-drop, length-drop}
 
 module _ (p : ℕ) where

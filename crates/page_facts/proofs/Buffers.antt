@@ -1,22 +1,21 @@
 -- What lines leave in their buffers.
-use Rattle.std.proofs.Common.{◌≡◌, ℕ, ◌+◌, ◌-◌, ◌<◌, ◌≤◌, true, false, ◌⊎◌, List, ◌∷◌, length, get_or, take, drop, Some, Option, sym, refl, ap, ◌∙◌, subst, inl, inr, ⊎_elim, arith}
+use Rattle.std.proofs.Common.{◌≡◌, ℕ, ◌+◌, ◌-◌, ◌<◌, ◌≤◌, true, false, List, length, get_or, take, drop, sym, ap, ◌∙◌, inl, inr, ⊎_elim, arith}
 use Rattle.bottleneck.proofs.Lowering.{some_graded}
 use Rattle.bottleneck.proofs.Ranks.{compared}
 use Rattle.bottleneck.specs.Grades.{AllValid}
-use Rattle.file_format.specs.FileOf.{Graded}
 use Rattle.matching.specs.Plans.{BestPlan}
 use Rattle.page_facts.proofs.Ways.{kind_of}
-use Rattle.page_facts.specs.Buffers.{DrawnInWords, DrawnLinesInWords, LaterPlacesNeverChange, SameFrom, ShortLinesInWords, WritesLittle}
+use Rattle.page_facts.specs.Buffers.{DrawnLinesInWords, LaterPlacesNeverChange, SameFrom, ShortLinesInWords, WritesLittle}
 use Rattle.pages.proofs.Kept.{standing_grades_are_of_the_kind}
 use Rattle.pages.proofs.Lengths.{published_long}
 use Rattle.pages.proofs.Off.{lawful}
 use Rattle.pages.proofs.Told.{drawn_lines_have_the_best_plan, short_lines_have_no_plan}
 use Rattle.pages.specs.Answers.{Drawing, Page, Right}
-use Rattle.pages.specs.Lines.{Opening, Event, Call, Outcome}
+use Rattle.pages.specs.Lines.{Opening, Event, Outcome}
 use Rattle.pages.specs.Reasons.{NoReason, Reason, writes_plan}
 use Rattle.pages.specs.Standing.{grade_at, standing}
 use Rattle.refusals.specs.declared.refusal.Refusal.TheVariants as refusal
-use Rattle.std.proofs.lemmas.List.{get_or-drop, get_or-take, length-drop, length-take, take-append-drop}
+use Rattle.std.proofs.lemmas.List.{get_or-drop, get_or-take, length-drop, length-take}
 use Rattle.std.proofs.lemmas.Bool.{both_ways, cases_lt}
 
 same : (p : ℕ) (x y : List ℕ) → y ≡ x → SameFrom p x y

@@ -1,7 +1,7 @@
 -- Damaged forms of the worked file, by computing.
 use Rattle.std.proofs.Common.{◌≡◌, ℕ, zero, suc, ◌<◌, ◌≤◌, List, set, Some, refl, arith}
 use Rattle.file_format.specs.Layout.{count_in}
-use Rattle.file_format.specs.Rules.{Faulty, Part, RightPart, There, first_broken, number_of, offset_of, rank, rules, section_of}
+use Rattle.file_format.specs.Rules.{Part, RightPart, There, first_broken, number_of, offset_of, rank, rules, section_of}
 use Rattle.page_facts.proofs.Example.{only}
 use Rattle.page_facts.specs.Example.{DamagedFiles, OneFault, example_bytes, example_sheet}
 use Rattle.refusals.specs.Faults.{cause_number, fault_at}

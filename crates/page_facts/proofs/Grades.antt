@@ -4,8 +4,7 @@ use Rattle.books.proofs.Standing.{changed_other, changed_same}
 use Rattle.file_format.specs.FileOf.{grade_in}
 use Rattle.page_facts.proofs.Ways.{Done, done_way, is_some, load_finds_none}
 use Rattle.page_facts.specs.Grades.{GradedPairsStand, GradesNothing, LoadedGradesStand, OtherLinesLeaveTheGrades, RegradedPairsStand, StruckPairsAreFree}
-use Rattle.pages.specs.Answers.{Page}
-use Rattle.pages.specs.Lines.{Opening, Event, Call, Outcome}
+use Rattle.pages.specs.Lines.{Event, Call, Outcome}
 use Rattle.pages.specs.Reasons.{Reason}
 use Rattle.pages.specs.Standing.{first_of, grade_at, grade_by, regraded, standing}
 use Rattle.refusals.specs.declared.refusal.Refusal.TheVariants as refusal

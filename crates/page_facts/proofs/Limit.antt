@@ -1,19 +1,19 @@
 -- Never more grades stand than the limit.
-use Rattle.std.proofs.Common.{◌≡◌, ℕ, ◌+◌, ◌<◌, ◌≤◌, true, false, List, [], ◌∷◌, is_some as option_is_some, Some, None, Option, sym, refl, ap, ◌∙◌, ⊎_elim, arith}
+use Rattle.std.proofs.Common.{◌≡◌, ℕ, ◌+◌, ◌≤◌, true, List, [], ◌∷◌, is_some as option_is_some, Some, None, Option, refl, ap, ◌∙◌, ⊎_elim, arith}
 use Rattle.books.proofs.Inside.{lies}
-use Rattle.books.proofs.Standing.{changed_other, changed_same, one_le, standing_changed, standing_empty, standing_same}
+use Rattle.books.proofs.Standing.{changed_other, changed_same, standing_changed, standing_empty, standing_same}
 use Rattle.books.specs.Limits.{inside}
 use Rattle.books.specs.Meaning.{changed, one, standing}
 use Rattle.file_format.proofs.Encoded.{file_count}
 use Rattle.file_format.proofs.RoundTrip.{right_is_the_file}
-use Rattle.file_format.specs.FileOf.{file_of, grade_in}
+use Rattle.file_format.specs.FileOf.{grade_in}
 use Rattle.file_format.specs.Layout.{count_in}
 use Rattle.page_facts.proofs.Ways.{is_none, is_some, load_finds_none}
 use Rattle.page_facts.specs.Grades.{LimitIsKept}
 use Rattle.pages.proofs.Kept.{file_right}
 use Rattle.pages.proofs.Off.{lawful}
-use Rattle.pages.specs.Answers.{Given, Lawful, Page, Right}
-use Rattle.pages.specs.Lines.{Opening, Line, Event, Call, Outcome}
+use Rattle.pages.specs.Answers.{Given, Lawful, Right}
+use Rattle.pages.specs.Lines.{Opening, Line, Call, Outcome}
 use Rattle.pages.specs.Reasons.{NoReason, Reason, pair_of}
 use Rattle.pages.specs.Standing.{Standing, first_of, grade_at, grade_by, regraded, standing as stands}
 use Rattle.refusals.specs.declared.refusal.Refusal.TheVariants as refusal

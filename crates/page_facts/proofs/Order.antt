@@ -1,5 +1,5 @@
 -- Which of several reasons is told.
-use Rattle.std.proofs.Common.{◌≡◌, ℕ, ◌<◌, ◌≤◌, true, false, ◌⊎◌, List, ◌∷◌, length, is_some, Some, None, Option, sym, refl, ap, ◌∙◌, subst, inl, inr, ⊎_elim, arith}
+use Rattle.std.proofs.Common.{◌≡◌, ℕ, ◌<◌, ◌≤◌, true, false, List, ◌∷◌, length, is_some, Some, None, sym, refl, ap, ◌∙◌, subst, ⊎_elim, arith}
 use Rattle.books.specs.Limits.{inside}
 use Rattle.books.specs.Meaning.{standing}
 use Rattle.file_format.specs.Layout.{count_in}
@@ -11,7 +11,7 @@ use Rattle.pages.proofs.Clear.{Clear, is_first}
 use Rattle.pages.proofs.Clears.{draw_clear, grade_clear, load_clear, show_clear, spend_clear, strike_clear}
 use Rattle.pages.proofs.Told.{refused_for_the_first_reason}
 use Rattle.pages.specs.Answers.{Page}
-use Rattle.pages.specs.Lines.{Opening, Line, Event, Call, Outcome}
+use Rattle.pages.specs.Lines.{Opening, Line, Event, Call}
 use Rattle.pages.specs.Reasons.{Reason, file_expected, least_role, may, pair_of, slip_of, wants_idle, writes_plan}
 use Rattle.pages.specs.Standing.{Drawn, grade_at, out_at, published_at, standing as stands}
 use Rattle.refusals.specs.Refusals.{number_of}

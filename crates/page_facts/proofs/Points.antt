@@ -1,5 +1,5 @@
 -- Points stand in a strict order.
-use Rattle.std.proofs.Common.{◌≡◌, ℕ, ◌^◌, ◌<◌, ◌≤◌, Bool, true, false, ◌&&◌, eqb, ltb, leb, sym, refl, ap, ◌∙◌, ⊎_elim, arith}
+use Rattle.std.proofs.Common.{◌≡◌, ℕ, ◌<◌, Bool, true, false, ◌&&◌, eqb, ltb, leb, refl, ap, ◌∙◌, ⊎_elim, arith}
 use Rattle.grades.specs.Order.{Order, exactly_one}
 use Rattle.grades.specs.Points.{above_points, valid_points}
 use Rattle.std.proofs.lemmas.Bool.{and_from, and_parts, eq-eqb, le-ltb, leb-true, lt-ltb, ltb-true, ne_eqb, cases_order}

@@ -1,10 +1,9 @@
 -- The table of roles is what the definitions ask for.
-use Rattle.std.proofs.Common.{◌≡◌, ℕ, ◌<◌, ◌≤◌, Bool, true, false, ◌||◌, eqb, leb, ◌⊎◌, List, [], ◌∷◌, sym, refl, ap, ◌∙◌, inl, inr, ⊎_elim, arith}
+use Rattle.std.proofs.Common.{◌≡◌, ℕ, ◌≤◌, true, false, eqb, leb, List, [], ◌∷◌, sym, refl, ◌∙◌, ⊎_elim, arith}
 use Rattle.page_facts.specs.Rights.{RolesByTheTable, among, roles_for}
 use Rattle.pages.proofs.Clear.{Clear, is_first}
 use Rattle.pages.proofs.Told.{refused_for_the_first_reason}
-use Rattle.pages.specs.Answers.{Page}
-use Rattle.pages.specs.Lines.{Opening, Line, Event, Call, Outcome}
+use Rattle.pages.specs.Lines.{Opening, Line, Call}
 use Rattle.pages.specs.Reasons.{Reason, least_role, may}
 use Rattle.pages.specs.Standing.{Standing, standing}
 use Rattle.augmenting.proofs.Gathered.{same_bool}

@@ -1,5 +1,5 @@
 -- What is out, and what is published, by the last line that decides it.
-use Rattle.std.proofs.Common.{◌≡◌, ℕ, ◌⊎◌, List, [], ◌∷◌, ◌++◌, take, Some, None, Option, sym, refl, ap, ◌∙◌, subst, inl, inr, ⊎_elim, arith}
+use Rattle.std.proofs.Common.{◌≡◌, ℕ, ◌⊎◌, List, [], ◌∷◌, ◌++◌, take, Some, None, sym, refl, ap, ◌∙◌, inl, inr, ⊎_elim, arith}
 use Rattle.page_facts.proofs.Spent.{drawn_plans_are_out, other_lines_leave_the_published, other_lines_leave_the_slip}
 use Rattle.page_facts.proofs.Ways.{kind_of}
 use Rattle.page_facts.specs.Lists.{Each}

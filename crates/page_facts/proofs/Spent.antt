@@ -1,5 +1,5 @@
 -- Slips that are handed out and spent, and what is published.
-use Rattle.std.proofs.Common.{◌≡◌, ℕ, true, false, ◌⊎◌, List, [], ◌∷◌, ◌++◌, take, is_some as option_is_some, Some, None, Option, sym, refl, ap, ◌∙◌, inl, inr, ⊎_elim, arith}
+use Rattle.std.proofs.Common.{◌≡◌, ℕ, true, ◌⊎◌, List, [], ◌∷◌, ◌++◌, take, is_some as option_is_some, Some, None, Option, sym, refl, ap, ◌∙◌, inl, inr, ⊎_elim, arith}
 use Rattle.page_facts.proofs.Ways.{Done, done_way, is_none, is_some, kind_of, page_tail}
 use Rattle.page_facts.specs.Lists.{Each}
 use Rattle.page_facts.specs.Slips.{DrawnPlansAreOut, OtherLinesLeaveThePublished, OtherLinesLeaveTheSlip, Publishes, ShortDrawsHandOutNone, ShownAsDrawn, SlipsComeFromDraws, Spends, SpentSlipsAreGone}
@@ -7,7 +7,7 @@ use Rattle.pages.proofs.Calls.{never_some, same_some}
 use Rattle.pages.proofs.Told.{shows_give_the_published_plan}
 use Rattle.pages.specs.Answers.{Page, Right}
 use Rattle.pages.specs.Lines.{Opening, Event, Call, Outcome}
-use Rattle.pages.specs.Reasons.{NoReason, Reason, slip_of, wants_idle}
+use Rattle.pages.specs.Reasons.{Reason, slip_of, wants_idle}
 use Rattle.pages.specs.Standing.{Drawn, out_at, out_by, out_by_done, published_at, published_by, published_by_done, standing}
 use Rattle.refusals.specs.declared.refusal.Refusal.{Refusal}
 use Rattle.refusals.specs.declared.refusal.Refusal.TheVariants as refusal

@@ -1,9 +1,9 @@
 -- What the counts count.
-use Rattle.std.proofs.Common.{◌≡◌, ℕ, ◌+◌, cond, List, [], ◌∷◌, ◌++◌, is_some, Option, refl, ap, ◌∙◌, arith}
+use Rattle.std.proofs.Common.{◌≡◌, ℕ, cond, List, [], ◌∷◌, ◌++◌, is_some, Option, refl, ap, ◌∙◌, arith}
 use Rattle.page_facts.specs.Counted.{NewestLineFirst, SlipCounts, Withdraws}
 use Rattle.page_facts.specs.Slips.{Publishes}
 use Rattle.pages.specs.Lines.{Event, Call, Outcome, run_on}
-use Rattle.pages.specs.Promises.{draws, one_if_done, one_if_drawn, one_if_publish, one_if_withdraw, publishes, withdraws}
+use Rattle.pages.specs.Promises.{one_if_done, one_if_drawn, one_if_publish, one_if_withdraw}
 use Rattle.pages.specs.Standing.{Drawn}
 
 -- a line that adds nothing, by outcome and call

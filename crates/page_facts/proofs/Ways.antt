@@ -4,7 +4,7 @@ use Rattle.pages.proofs.Calls.{never_some}
 use Rattle.pages.specs.Answers.{Right, Page, Given}
 use Rattle.pages.specs.Lines.{Opening, Line, Answer, Event, Call, Outcome}
 use Rattle.pages.specs.Reasons.{Reason, NoReason}
-use Rattle.pages.specs.Standing.{Standing, standing, grade_at}
+use Rattle.pages.specs.Standing.{Standing}
 use Rattle.refusals.specs.declared.refusal.Refusal.TheVariants as refusal
 use Rattle.std.proofs.lemmas.Bool.{both_ways}
 

@@ -1,8 +1,7 @@
 -- The short page, line by line.
-use Rattle.std.proofs.Common.{◌≡◌, ℕ, zero, suc, ◌+◌, ◌<◌, ◌≤◌, true, false, List, [], ◌∷◌, get_or, Some, None, Option, sym, refl, ap, ◌∙◌, subst, inl, inr, arith}
+use Rattle.std.proofs.Common.{◌≡◌, ℕ, zero, suc, ◌<◌, true, List, [], ◌∷◌, get_or, Some, None, refl, ap, subst, inr, arith}
 use Rattle.books.proofs.Standing.{standing_le}
 use Rattle.books.specs.Meaning.{in_row, standing as standing-grades}
-use Rattle.bottleneck.specs.Grades.{AllValid}
 use Rattle.file_format.proofs.Once.{right_or_one_fault}
 use Rattle.file_format.proofs.RoundTrip.{file_is_right}
 use Rattle.file_format.specs.FileOf.{file_of, grades_bytes, row_bytes}
@@ -17,10 +16,10 @@ use Rattle.page_facts.specs.Witness.{ThereIsAPage, empty_file, page_1, page_2, p
 use Rattle.pages.proofs.Calls.{never_some}
 use Rattle.pages.proofs.Clear.{Clear, all_clear, is_first}
 use Rattle.pages.proofs.Clears.{draw_clear, grade_clear, load_clear, show_clear, spend_clear, strike_clear}
-use Rattle.pages.specs.Answers.{Drawing, Given, Lacking, Right, says_done, valid_only}
+use Rattle.pages.specs.Answers.{Given, Right, says_done, valid_only}
 use Rattle.pages.specs.Lines.{Answer, Call, Event, Line, Outcome}
 use Rattle.pages.specs.Reasons.{Reason, file_expected}
-use Rattle.pages.specs.Standing.{Standing, grade_at, out_at, standing}
+use Rattle.pages.specs.Standing.{grade_at, standing}
 use Rattle.plan_facts.proofs.Single.{last_translator_counts, ungraded_package_is_short}
 use Rattle.refusals.specs.declared.refusal.Refusal.TheVariants as refusal
 

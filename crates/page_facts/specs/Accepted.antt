@@ -1,5 +1,5 @@
 -- Which lines are not refused: for each call, all that has to hold.
-use Rattle.std.specs.Prelude.{◌≡◌, ℕ, ◌<◌, ◌≤◌, true, ◌⊎◌, List, length, Some, None, Option, ◌≢◌}
+use Rattle.std.specs.Prelude.{◌≡◌, ℕ, ◌<◌, ◌≤◌, true, ◌⊎◌, List, length, Some, None, ◌≢◌}
 use Rattle.books.specs.Limits.{inside}
 use Rattle.books.specs.Meaning.{standing}
 use Rattle.file_format.specs.Layout.{count_in}

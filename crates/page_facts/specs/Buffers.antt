@@ -1,5 +1,5 @@
 -- What the lines of a page leave in their buffers.
-use Rattle.std.specs.Prelude.{◌≡◌, ℕ, ◌+◌, ◌<◌, ◌≤◌, true, ◌⊎◌, List, ◌∷◌, length, Some, None, Option, ◌≢◌, nat_eq, slice_index}
+use Rattle.std.specs.Prelude.{◌≡◌, ℕ, ◌+◌, ◌<◌, ◌≤◌, true, ◌⊎◌, List, ◌∷◌, length, Some, Option, ◌≢◌, nat_eq, slice_index}
 use Rattle.augmenting.specs.Sets.{OneFewer}
 use Rattle.bottleneck.specs.Grades.{graded, graded_above}
 use Rattle.pages.specs.Answers.{Page}

@@ -1,5 +1,5 @@
 -- Which lines the counts of draws, publishes and withdraws count, and how a history grows.
-use Rattle.std.specs.Prelude.{◌≡◌, ℕ, ◌+◌, List, [], ◌∷◌, ◌++◌, Some, None, Option, ◌≢◌}
+use Rattle.std.specs.Prelude.{◌≡◌, ℕ, ◌+◌, List, [], ◌∷◌, ◌++◌, Some, None, ◌≢◌}
 use Rattle.page_facts.specs.Slips.{Publishes}
 use Rattle.pages.specs.Lines.{Event, Call, Outcome, run_on}
 use Rattle.pages.specs.Promises.{draws, publishes, slips_out, withdraws}

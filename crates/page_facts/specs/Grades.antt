@@ -1,5 +1,5 @@
 -- What the definition of the standing grades says of the line just answered, and of whole histories.
-use Rattle.std.specs.Prelude.{◌≡◌, ℕ, ◌≤◌, List, ◌∷◌, ◌++◌, Some, None, Option}
+use Rattle.std.specs.Prelude.{◌≡◌, ℕ, ◌≤◌, List, ◌∷◌, ◌++◌, Some, None}
 use Rattle.books.specs.Meaning.{standing}
 use Rattle.file_format.specs.FileOf.{grade_in}
 use Rattle.page_facts.specs.Lists.{Each}

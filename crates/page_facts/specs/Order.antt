@@ -1,5 +1,5 @@
 -- Which of several reasons that hold at once a line is refused for.
-use Rattle.std.specs.Prelude.{◌≡◌, ℕ, ◌<◌, true, false, ◌⊎◌, List, ◌∷◌, length, Some, None, Option, ◌≢◌}
+use Rattle.std.specs.Prelude.{◌≡◌, ℕ, ◌<◌, true, false, ◌⊎◌, List, ◌∷◌, length, Some, None, ◌≢◌}
 use Rattle.books.specs.Limits.{inside}
 use Rattle.books.specs.Meaning.{standing}
 use Rattle.file_format.specs.Rules.{Faulty}

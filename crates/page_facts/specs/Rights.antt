@@ -1,5 +1,5 @@
 -- Which role may make which call: 1 reader, 2 editor, 3 manager.
-use Rattle.std.specs.Prelude.{◌≡◌, ℕ, Bool, true, false, ◌||◌, List, [], ◌∷◌, ◌==◌}
+use Rattle.std.specs.Prelude.{◌≡◌, ℕ, Bool, false, ◌||◌, List, [], ◌∷◌, ◌==◌}
 use Rattle.pages.specs.Answers.{Page}
 use Rattle.pages.specs.Lines.{Opening, Event, Call, Outcome}
 use Rattle.refusals.specs.declared.refusal.Refusal.TheVariants as refusal

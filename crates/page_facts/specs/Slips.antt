@@ -1,5 +1,5 @@
 -- What the definitions say of slips and of the published plan.
-use Rattle.std.specs.Prelude.{◌≡◌, ℕ, ◌⊎◌, List, ◌∷◌, ◌++◌, take, Some, None, Option, ◌≢◌}
+use Rattle.std.specs.Prelude.{◌≡◌, ℕ, ◌⊎◌, List, ◌∷◌, ◌++◌, take, Some, None, ◌≢◌}
 use Rattle.page_facts.specs.Lists.{Each}
 use Rattle.pages.specs.Answers.{Page}
 use Rattle.pages.specs.Lines.{Opening, Event, Call, Outcome}

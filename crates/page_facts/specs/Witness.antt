@@ -3,7 +3,6 @@ use Rattle.std.specs.Prelude.{ℕ, List, [], ◌∷◌, Some, None, Option}
 use Rattle.grades.specs.Points.{above_points, valid_points}
 use Rattle.pages.specs.Answers.{Page}
 use Rattle.pages.specs.Lines.{Opening, Event, Call, Outcome}
-use Rattle.refusals.specs.declared.refusal.Refusal.{Refusal}
 use Rattle.refusals.specs.declared.refusal.Refusal.TheVariants as refusal
 
 -- points, one package, one translator, tag 7

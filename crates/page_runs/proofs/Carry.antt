@@ -1,11 +1,11 @@
 -- The slip that the program holds is the one that is out, line after line and at the end.
-use Rattle.std.proofs.Common.{◌≡◌, ℕ, Bool, true, false, ◌&&◌, List, [], ◌∷◌, is_some, Some, None, Option, sym, refl, ap, ◌∙◌, subst, ⊎_elim, arith}
+use Rattle.std.proofs.Common.{◌≡◌, ℕ, true, false, ◌&&◌, List, ◌∷◌, is_some, Some, None, Option, sym, refl, ap, ◌∙◌, subst, ⊎_elim, arith}
 use Rattle.page_runs.specs.Asks.{opening_with, asks, event}
 use Rattle.page_runs.specs.Slips.{slip_for, Gives}
 use Rattle.pages.proofs.Calls.{ordinal, never_some}
-use Rattle.pages.specs.Answers.{Right, Page, Drawing, Lacking, Showing}
+use Rattle.pages.specs.Answers.{Right, Page}
 use Rattle.pages.specs.Lines.{Opening, Line, Answer, Event, Call, Outcome}
-use Rattle.pages.specs.Reasons.{Reason, NoReason, may, wants_idle, slip_of}
+use Rattle.pages.specs.Reasons.{Reason, wants_idle, slip_of}
 use Rattle.pages.specs.Standing.{Standing, Drawn, first_of, out_by, out_by_done, out_at, standing}
 use Rattle.refusals.specs.declared.refusal.Refusal.{Refusal}
 use Rattle.refusals.specs.declared.refusal.Refusal.TheVariants as refusal

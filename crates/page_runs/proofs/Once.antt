@@ -1,16 +1,15 @@
 -- No input has two outputs: lines and what stands above them determine what is told.
-use Rattle.std.proofs.Common.{◌≡◌, ℕ, ◌<◌, ◌≤◌, true, false, List, [], ◌∷◌, ◌++◌, length, is_some, Some, None, Option, sym, refl, ap, ◌∙◌, subst, arith}
+use Rattle.std.proofs.Common.{◌≡◌, ℕ, List, [], ◌∷◌, ◌++◌, is_some, sym, refl, ap, ◌∙◌, subst, arith}
 use Rattle.books.specs.Limits.{within}
-use Rattle.page_runs.specs.Asks.{opening_with, line_for, sizes_for, told_as, event}
+use Rattle.page_runs.specs.Asks.{opening_with, told_as, event}
 use Rattle.page_runs.specs.Output.{lacks_slip, Tells, Closes, Follows, Starts, Begins, Output, RulesDetermineTheOutput}
 use Rattle.page_text.specs.Commands.{Said, said_by}
 use Rattle.page_text.specs.Replies.{Told, line_of}
 use Rattle.pages.proofs.Calls.{never_some, same_some}
 use Rattle.pages.proofs.Off.{same_answers}
-use Rattle.pages.specs.Answers.{Page}
 use Rattle.pages.specs.Lines.{Opening, Line, Answer, Event}
 use Rattle.pages.specs.Promises.{Alike, lines}
-use Rattle.pages.specs.Standing.{Standing, Drawn, out_at, standing}
+use Rattle.pages.specs.Standing.{Standing, out_at, standing}
 use Rattle.plain_text.specs.Lines.{lines_of}
 use Rattle.std.proofs.lemmas.Bool.{both_ways}
 

@@ -1,11 +1,11 @@
 -- All reports on one file agree: the file determines kind, sizes and grades, and these the plan.
-use Rattle.std.proofs.Common.{◌≡◌, ℕ, ◌≤◌, Bool, true, false, cond, ◌&&◌, ◌||◌, eqb, leb, ◌⊎◌, List, ◌++◌, get_or, Some, None, Option, sym, refl, ap, ◌∙◌, subst, inl, inr, ⊎_elim, arith, rules}
+use Rattle.std.proofs.Common.{◌≡◌, ℕ, Bool, true, false, cond, ◌&&◌, ◌||◌, eqb, ◌⊎◌, List, ◌++◌, get_or, Some, None, Option, sym, refl, ap, ◌∙◌, subst, inl, inr, ⊎_elim, rules}
 use Rattle.books.specs.Limits.{Within, within}
 use Rattle.bottleneck.specs.Grades.{AllValid}
 use Rattle.file_format.proofs.Once.{right_or_one_fault}
 use Rattle.file_format.proofs.RoundTrip.{file_is_right}
 use Rattle.file_format.specs.FileOf.{Graded, file_of, grade_in}
-use Rattle.file_format.specs.Layout.{whole, sheet_in}
+use Rattle.file_format.specs.Layout.{whole}
 use Rattle.file_format.specs.Rules as rules
 use Rattle.grades.specs.Order.{Order}
 use Rattle.grades.specs.Points.{valid_points, above_points}
@@ -17,7 +17,7 @@ use Rattle.refusals.specs.declared.fault.Cause.{Cause}
 use Rattle.refusals.specs.declared.fault.Cause.TheVariants as cause
 use Rattle.refusals.specs.declared.fault.Fault.{Fault}
 use Rattle.saved_file.specs.ByItself.{by_itself, known_kind, valid_in}
-use Rattle.std.proofs.lemmas.Bool.{eqb-true, le-leb, cases_Bool, both_ways}
+use Rattle.std.proofs.lemmas.Bool.{eqb-true, le-leb, both_ways}
 
 points_order : Order valid_points above_points
 points_order = record { no_zero = search rules; fits = search rules; one_way = search rules; chain = search rules }

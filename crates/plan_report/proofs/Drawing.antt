@@ -1,11 +1,9 @@
 -- The lines that an office runs: a load, a draw and a withdraw. None of them is refused.
-use Rattle.std.proofs.Common.{◌≡◌, ℕ, ◌≤◌, Bool, true, false, cond, leb, List, [], ◌∷◌, length, take, Some, None, Ok, Err, Option, Result, sym, refl, ap, ◌∙◌, subst, arith}
+use Rattle.std.proofs.Common.{◌≡◌, ℕ, ◌≤◌, Bool, true, false, cond, leb, List, [], ◌∷◌, length, Some, None, Ok, Err, Option, Result, refl, subst, arith}
 use Rattle.file_format.proofs.Once.{right_or_one_fault}
 use Rattle.file_format.specs.FileOf.{grade_in}
 use Rattle.file_format.specs.Layout.{count_in, whole}
 use Rattle.file_format.specs.Rules as rules
-use Rattle.matching.specs.Answers.{member}
-use Rattle.matching.specs.Plans.{BestPlan, NoPlan, ShortSet, TightSet}
 use Rattle.pages.proofs.Calls.{same_some}
 use Rattle.pages.proofs.Clear.{all_clear}
 use Rattle.pages.proofs.Clears.{load_clear, draw_clear, spend_clear}

@@ -1,10 +1,10 @@
 -- What is told of a right file is its report.
-use Rattle.std.proofs.Common.{◌≡◌, ℕ, ◌<◌, ◌≤◌, Bool, true, false, cond, ◌&&◌, eqb, List, [], ◌∷◌, ◌++◌, length, get_or, take, IfOk, Some, None, Ok, Err, string_bytes, Option, Result, String, sym, refl, ap, ◌∙◌, subst, append_assoc, arith, eq-eqb}
+use Rattle.std.proofs.Common.{◌≡◌, ℕ, ◌≤◌, true, false, ◌&&◌, eqb, List, [], ◌∷◌, ◌++◌, length, take, IfOk, Some, None, Ok, Err, string_bytes, Option, Result, String, sym, refl, ap, ◌∙◌, subst, append_assoc, eq-eqb}
 use Rattle.books.specs.Limits.{within}
 use Rattle.books.specs.Meaning.{Blank, Meaning, standing}
 use Rattle.file_format.proofs.Encoded.{file_count}
 use Rattle.file_format.proofs.RoundTrip.{right_is_the_file}
-use Rattle.file_format.specs.FileOf.{file_of, grade_in}
+use Rattle.file_format.specs.FileOf.{grade_in}
 use Rattle.file_format.specs.Laws.{Bytes}
 use Rattle.file_format.specs.Layout.{count_in, sheet_in, whole}
 use Rattle.file_format.specs.Rules as rules
@@ -16,7 +16,7 @@ use Rattle.plan_report.proofs.Drawing.{few_records}
 use Rattle.plan_report.proofs.Growing.{members_same}
 use Rattle.plan_report.specs.Offices.{Settled, named_by}
 use Rattle.plan_report.specs.Reports.{above_in, Holds, Report, Tells}
-use Rattle.plan_report.specs.Texts.{fault_text, head_line, lowest_line, members, no_plan_line, set_line, short_words, table, tight_words}
+use Rattle.plan_report.specs.Texts.{fault_text, head_line, lowest_line, no_plan_line, set_line, short_words, table, tight_words}
 use Rattle.refusals.specs.declared.fault.Cause.TheVariants as cause
 use Rattle.refusals.specs.declared.fault.Fault.{Fault}
 use Rattle.saved_file.specs.ByItself.{by_itself, kind_number, known_kind, three_of, valid_in}

@@ -1,8 +1,6 @@
 -- An answer said in other words, and the histories that it extends.
-use Rattle.std.proofs.Common.{◌≡◌, ℕ, List, ◌∷◌, length, Some, sym, ap, ◌∙◌, subst}
-use Rattle.books.specs.Meaning.{Meaning}
+use Rattle.std.proofs.Common.{◌≡◌, List, length, Some, sym, ap, ◌∙◌, subst}
 use Rattle.pages.proofs.Lengths.{published_long}
-use Rattle.pages.proofs.Runs.{ran_more}
 use Rattle.pages.specs.Answers.{Runs, Ran}
 use Rattle.pages.specs.Lines.{Opening, Line, Answer, Event}
 use Rattle.pages.specs.Standing.{Standing, Drawn}

@@ -1,13 +1,13 @@
 -- Draw as a line of a page.
-use Rattle.std.proofs.Common.{◌≡◌, ℕ, ◌<◌, ◌≤◌, Bool, true, false, cond, List, length, take, is_some, Some, None, Ok, Err, Option, Result, sym, refl, ap, ◌∙◌, subst, ⊎_elim, arith}
-use Rattle.matching.specs.Answers.{PlanWritten, ShortWritten, NoRoom}
+use Rattle.std.proofs.Common.{◌≡◌, ℕ, ◌≤◌, Bool, true, false, cond, List, length, is_some, Some, None, Ok, Err, Option, Result, sym, refl, ap, ◌∙◌, subst, ⊎_elim, arith}
+use Rattle.matching.specs.Answers.{NoRoom}
 use Rattle.matching.specs.Plans.{BestPlan}
 use Rattle.pages.proofs.Clear.{is_first, all_clear}
 use Rattle.pages.proofs.Clears.{draw_clear}
-use Rattle.pages.specs.Answers.{Right, Runs, Untouched, valid_only}
-use Rattle.pages.specs.Lines.{Opening, Line, Answer, Call, Outcome}
+use Rattle.pages.specs.Answers.{Right, Runs, valid_only}
+use Rattle.pages.specs.Lines.{Opening, Line, Call, Outcome}
 use Rattle.pages.specs.Reasons.{Reason, NoReason, may}
-use Rattle.pages.specs.Standing.{Standing, Drawn, next}
+use Rattle.pages.specs.Standing.{Standing, Drawn}
 use Rattle.refusals.specs.declared.refusal.Refusal.{Refusal}
 use Rattle.refusals.specs.declared.refusal.Refusal.TheVariants as refusal
 use Rattle.sheet.specs.Admission.{admission, draw_gate, settled}

@@ -3,7 +3,7 @@ use Rattle.std.proofs.Common.{◌≡◌, ℕ, zero, suc, ◌+◌, ◌<◌, List,
 use Rattle.pages.specs.Lines as page
 use Rattle.pages.specs.Lines.{run_on}
 use Rattle.sheet.specs.Entries.{asked_in, event_in, events_in}
-use Rattle.sheet.specs.Lines.{asked_of, told_of, outcome_of, event_of}
+use Rattle.sheet.specs.Lines.{asked_of, outcome_of, event_of}
 use Rattle.sheet.specs.Told.{told}
 use Rattle.sheet.specs.declared.entries.Ask.{Ask}
 use Rattle.sheet.specs.declared.entries.Entry.{Entry}

@@ -1,5 +1,5 @@
 -- Load as a line of a page.
-use Rattle.std.proofs.Common.{◌≡◌, ℕ, ◌<◌, ◌≤◌, true, false, ◌⊎◌, List, is_some, Some, None, Ok, Err, Option, Result, sym, refl, ap, ◌∙◌, subst, inl, inr, arith}
+use Rattle.std.proofs.Common.{◌≡◌, ℕ, ◌<◌, true, false, ◌⊎◌, List, is_some, Some, None, Ok, Err, Option, Result, sym, refl, ap, ◌∙◌, inl, inr, arith}
 use Rattle.file_format.proofs.Once.{right_or_one_fault}
 use Rattle.file_format.specs.FileOf.{grade_in}
 use Rattle.file_format.specs.Layout.{count_in}
@@ -7,14 +7,14 @@ use Rattle.file_format.specs.Rules as rules
 use Rattle.pages.proofs.Clear.{Clear, is_first, all_clear}
 use Rattle.pages.proofs.Clears.{load_clear}
 use Rattle.pages.specs.Answers.{Right, Runs}
-use Rattle.pages.specs.Lines.{Opening, Line, Answer, Call, Outcome}
+use Rattle.pages.specs.Lines.{Opening, Line, Call, Outcome}
 use Rattle.pages.specs.Reasons.{Reason, may, file_expected}
-use Rattle.pages.specs.Standing.{Standing, first_of, next}
+use Rattle.pages.specs.Standing.{Standing, first_of}
 use Rattle.refusals.specs.Refusals.{number_of}
 use Rattle.refusals.specs.declared.fault.Fault.{Fault}
 use Rattle.refusals.specs.declared.refusal.Refusal.{Refusal}
 use Rattle.refusals.specs.declared.refusal.Refusal.TheVariants as refusal
-use Rattle.sheet.specs.Files.{LoadGate, LoadsNow, with_grades}
+use Rattle.sheet.specs.Files.{LoadGate, LoadsNow}
 use Rattle.sheet.specs.Told.{asked, told, told_done}
 
 module _ (o : Opening) (s : Standing) (role : ℕ) (file plan set : List ℕ) where

@@ -1,11 +1,11 @@
 -- Grade and strike as lines of a page.
-use Rattle.std.proofs.Common.{◌≡◌, ℕ, ◌<◌, Bool, true, false, cond, not, ◌&&◌, eqb, List, is_some, is_ok, Some, None, Ok, Err, Option, Result, sym, refl, ap, ◌∙◌, subst, arith}
+use Rattle.std.proofs.Common.{◌≡◌, ℕ, Bool, true, false, cond, not, ◌&&◌, eqb, List, is_some, is_ok, Some, None, Ok, Err, Option, Result, sym, refl, ap, ◌∙◌, subst, arith}
 use Rattle.books.specs.Limits.{inside}
 use Rattle.books.specs.Meaning.{standing}
 use Rattle.pages.proofs.Clear.{is_first, all_clear}
 use Rattle.pages.proofs.Clears.{grade_clear, strike_clear}
 use Rattle.pages.specs.Answers.{Right, Runs, Untouched}
-use Rattle.pages.specs.Lines.{Opening, Line, Answer, Call, Outcome}
+use Rattle.pages.specs.Lines.{Opening, Line, Call, Outcome}
 use Rattle.pages.specs.Reasons.{Reason, may}
 use Rattle.pages.specs.Standing.{Standing, next}
 use Rattle.refusals.specs.declared.refusal.Refusal.{Refusal}

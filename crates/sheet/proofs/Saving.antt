@@ -1,5 +1,5 @@
 -- The file of a sheet is that of the grades which stand after its history.
-use Rattle.std.proofs.Common.{◌≡◌, ℕ, List, ap, ◌∙◌}
+use Rattle.std.proofs.Common.{◌≡◌, List, ap, ◌∙◌}
 use Rattle.file_format.specs.FileOf.{file_of}
 use Rattle.pages.specs.Answers.{Ran}
 use Rattle.pages.specs.Files.{file_at}

@@ -1,11 +1,11 @@
 -- Show as a line of a page.
-use Rattle.std.proofs.Common.{◌≡◌, ℕ, ◌<◌, ◌≤◌, Bool, true, false, cond, not, ltb, leb, List, length, is_some, is_ok, Some, None, Ok, Err, Option, Result, sym, refl, ap, ◌∙◌, subst, arith}
-use Rattle.matching.proofs.Buffers.{front_written, rest_written, written_is}
-use Rattle.matching.specs.Written.{room_for, written}
+use Rattle.std.proofs.Common.{◌≡◌, ℕ, ◌≤◌, Bool, true, false, cond, not, ltb, leb, List, length, is_some, is_ok, Some, None, Ok, Err, Option, Result, sym, refl, ap, subst, arith}
+use Rattle.matching.proofs.Buffers.{front_written, rest_written}
+use Rattle.matching.specs.Written.{written}
 use Rattle.pages.proofs.Clear.{Clear, is_first, all_clear}
 use Rattle.pages.proofs.Clears.{show_clear}
 use Rattle.pages.specs.Answers.{Right, Runs}
-use Rattle.pages.specs.Lines.{Opening, Line, Answer, Call, Outcome}
+use Rattle.pages.specs.Lines.{Opening, Line, Call}
 use Rattle.pages.specs.Reasons.{Reason, may}
 use Rattle.pages.specs.Standing.{Standing, Drawn, next}
 use Rattle.refusals.specs.Refusals.{number_of}

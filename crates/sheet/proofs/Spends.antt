@@ -1,12 +1,12 @@
 -- Publish and withdraw as lines of a page.
-use Rattle.std.proofs.Common.{◌≡◌, ℕ, ◌<◌, ◌≤◌, Bool, true, false, cond, not, eqb, List, is_some, is_ok, Some, None, Ok, Err, Option, Result, sym, refl, ◌∙◌, subst, arith}
+use Rattle.std.proofs.Common.{◌≡◌, ℕ, ◌≤◌, Bool, true, false, cond, not, eqb, List, is_some, is_ok, Some, None, Ok, Err, Result, sym, refl, ◌∙◌, subst, arith}
 use Rattle.pages.proofs.Calls.{ordinal}
 use Rattle.pages.proofs.Clear.{Clear, is_first, all_clear}
 use Rattle.pages.proofs.Clears.{spend_clear}
 use Rattle.pages.specs.Answers.{Right, Runs, Given, says_done}
-use Rattle.pages.specs.Lines.{Opening, Line, Answer, Call, Outcome}
+use Rattle.pages.specs.Lines.{Opening, Line, Call}
 use Rattle.pages.specs.Reasons.{Reason, may, least_role, wants_idle, slip_of, pair_of, writes_plan}
-use Rattle.pages.specs.Standing.{Standing, Drawn, next}
+use Rattle.pages.specs.Standing.{Standing, next}
 use Rattle.refusals.specs.Refusals.{number_of}
 use Rattle.refusals.specs.declared.refusal.Refusal.{Refusal}
 use Rattle.refusals.specs.declared.refusal.Refusal.TheVariants as refusal

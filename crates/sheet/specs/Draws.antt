@@ -3,7 +3,7 @@ use Rattle.std.specs.Prelude.{◌≡◌, ℕ, List, Some, Ok, Err, Result}
 use Rattle.matching.specs.Answers.{PlanWritten, ShortWritten, NoRoom}
 use Rattle.pages.specs.Answers.{valid_only}
 use Rattle.pages.specs.Lines.{Opening}
-use Rattle.pages.specs.Standing.{Standing, Drawn}
+use Rattle.pages.specs.Standing.{Standing}
 use Rattle.refusals.specs.declared.refusal.Refusal.{Refusal}
 use Rattle.sheet.specs.Admission.{settled}
 use Rattle.sheet.specs.Steps.{with_plans}

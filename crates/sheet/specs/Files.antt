@@ -1,6 +1,6 @@
 -- What saving answers and leaves in the buffer; and what loading does, for the functions behind the
 -- call.
-use Rattle.std.specs.Prelude.{◌≡◌, ℕ, ◌<◌, ◌≤◌, true, false, cond, ◌⊎◌, List, is_some, Some, None, Ok, Err, Option, Result}
+use Rattle.std.specs.Prelude.{◌≡◌, ℕ, ◌<◌, ◌≤◌, true, false, cond, ◌⊎◌, List, is_some, None, Ok, Err, Option, Result}
 use Rattle.books.specs.Meaning.{Meaning}
 use Rattle.file_format.specs.FileOf.{grade_in}
 use Rattle.file_format.specs.Laws.{Bytes}

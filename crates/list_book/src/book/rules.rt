@@ -1,7 +1,7 @@
 // How a list book is made, read and changed.
 ghost use Rattle.books.specs.Meaning.{Blank};
 ghost use Rattle.list_book.specs.Meant.{meant};
-ghost use Rattle.list_book.specs.Means.{outside_grade};
+ghost use Rattle.list_book.specs.Outside.{outside_grade};
 ghost use Rattle.list_book.specs.Table.{listed};
 ghost use Rattle.std.proofs.Common.{rules, arith};
 

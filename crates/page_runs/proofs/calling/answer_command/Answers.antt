@@ -1,12 +1,11 @@
-use Rattle.std.proofs.Common.{◌≡◌, ℕ, ◌∷◌, ◌++◌, replicate, string_bytes, sym, refl, ap, ◌∙◌, subst, rules}
+use Rattle.std.proofs.Common.{ℕ, ◌∷◌, replicate, sym, refl, ap, ◌∙◌, subst}
 use Rattle.page_runs.proofs.Steps.{once, lives, tells, lacks, told_at}
 use Rattle.page_runs.proofs.calling.answer_command.Goals as goal
 use Rattle.page_runs.specs.Asks.{told_as, event}
 use Rattle.page_runs.specs.Live.{Live}
 use Rattle.page_runs.specs.Output.{Tells}
 use Rattle.page_text.specs.Commands.{said_of}
-use Rattle.page_text.specs.Replies.{Told, line_of}
-use Rattle.pages.specs.Lines.{Line, Answer}
+use Rattle.page_text.specs.Replies.{Told}
 use Rattle.sheet.specs.Lines.{asked_of, told_of}
 
 pub joined-requires : goal.joined-requires

@@ -1,4 +1,4 @@
-use Rattle.std.proofs.Common.{◌≡◌, ℕ, List, ◌++◌, sym, ap, ◌∙◌, subst}
+use Rattle.std.proofs.Common.{ℕ, List, ◌++◌, sym, ap, ◌∙◌, subst}
 use Rattle.page_runs.proofs.Once.{rules_determine_the_output}
 use Rattle.page_runs.proofs.run.answers.Goals as goal
 use Rattle.page_runs.specs.Output.{Output}

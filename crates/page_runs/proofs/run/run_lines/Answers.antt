@@ -1,5 +1,5 @@
-use Rattle.std.proofs.Common.{ℕ, string_bytes}
-use Rattle.page_runs.proofs.Whole.{Leads, made_ok, goes_on, ends_withdrawn, ends_idle}
+use Rattle.std.proofs.Common.{string_bytes}
+use Rattle.page_runs.proofs.Whole.{made_ok, goes_on, ends_withdrawn, ends_idle}
 use Rattle.page_runs.proofs.run.run_lines.Goals as goal
 use Rattle.page_runs.specs.Asks.{opening_with}
 use Rattle.page_text.specs.Commands.{said_of}

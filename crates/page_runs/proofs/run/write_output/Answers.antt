@@ -1,9 +1,8 @@
-use Rattle.std.proofs.Common.{◌≡◌, ℕ, List, ◌++◌, string_bytes, sym, ap, ◌∙◌, append_assoc, arith}
+use Rattle.std.proofs.Common.{ℕ, List, ◌++◌, string_bytes, sym, ap, ◌∙◌, append_assoc, arith}
 use Rattle.page_runs.proofs.Whole.{made_map, opening_refused, opening_follows}
 use Rattle.page_runs.proofs.run.write_output.Goals as goal
 use Rattle.page_text.specs.Commands.{said_of}
 use Rattle.page_text.specs.Replies.{Told, line_of}
-use Rattle.page_text.specs.declared.command.Command.{Command}
 use Rattle.plain_text.specs.Lines.{left_of}
 use Rattle.refusals.specs.Refusals.{number_of}
 

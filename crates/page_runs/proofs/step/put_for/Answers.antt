@@ -3,7 +3,7 @@ use Rattle.page_runs.specs.Asks.{asks, line_for}
 use Rattle.page_text.specs.Commands.{said_of}
 use Rattle.page_text.specs.declared.command.Command.{Command}
 use Rattle.pages.specs.Lines.{Call}
-use Rattle.std.proofs.Common.{◌≡◌, refl, ap}
+use Rattle.std.proofs.Common.{refl, ap}
 
 pub returns-in-Publish-None : goal.returns-in-Publish-None
 returns-in-Publish-None c = (

@@ -1,4 +1,4 @@
-use Rattle.std.proofs.Common.{◌≡◌, ℕ, List, ◌++◌, length, string_bytes, ap, ◌∙◌, append_assoc}
+use Rattle.std.proofs.Common.{ℕ, List, ◌++◌, length, string_bytes, ap, ◌∙◌, append_assoc}
 use Rattle.matching.specs.Answers.{member}
 use Rattle.plan_report.proofs.Growing.{two_parts}
 use Rattle.plan_report.proofs.lines.write_plan.Goals as goal

@@ -1,4 +1,4 @@
-use Rattle.std.proofs.Common.{◌≡◌, ℕ, ◌++◌, string_bytes, ap, ◌∙◌}
+use Rattle.std.proofs.Common.{◌++◌, string_bytes, ap, ◌∙◌}
 use Rattle.plan_report.proofs.Growing.{table_none, table_more}
 use Rattle.plan_report.proofs.lines.write_table.Goals as goal
 use Rattle.plan_report.specs.Texts.{pair_line}

@@ -1,4 +1,3 @@
-use Rattle.std.proofs.Common.{ℕ}
 use Rattle.plan_report.proofs.Agreeing.{reports_agree}
 use Rattle.plan_report.proofs.Telling.{fault_told}
 use Rattle.plan_report.proofs.whole.report.Goals as goal

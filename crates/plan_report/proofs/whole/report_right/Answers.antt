@@ -1,4 +1,4 @@
-use Rattle.std.proofs.Common.{◌≡◌, ℕ, ap, ◌∙◌}
+use Rattle.std.proofs.Common.{ℕ, ap, ◌∙◌}
 use Rattle.file_format.specs.FileOf.{grade_in}
 use Rattle.plan_report.proofs.Telling.{own_right, held, counted}
 use Rattle.plan_report.proofs.whole.report_right.Goals as goal

@@ -1,4 +1,4 @@
-use Rattle.std.proofs.Common.{◌≡◌, ℕ, ◌-◌, ◌≤◌, length, string_bytes, arith}
+use Rattle.std.proofs.Common.{◌≡◌, ◌-◌, ◌≤◌, length, string_bytes, arith}
 use Rattle.file_format.specs.FileOf.{grade_in}
 use Rattle.plan_report.proofs.Telling.{plan_told, short_told}
 use Rattle.plan_report.proofs.whole.tell_draw.Goals as goal

@@ -1,4 +1,4 @@
-use Rattle.std.proofs.Common.{◌≡◌, ℕ, ◌+◌, List, ◌∷◌, get_or, take, set, sym, ap, ◌∙◌, subst, arith}
+use Rattle.std.proofs.Common.{◌≡◌, ◌+◌, List, ◌∷◌, get_or, take, set, sym, ap, ◌∙◌, subst, arith}
 use Rattle.pages.specs.Answers.{Ran}
 use Rattle.pages.specs.Lines.{Event, run_on}
 use Rattle.sheet.proofs.Entered.{events_more, run_push, same_item, same_rest}

@@ -4,7 +4,6 @@ use Rattle.pages.specs.Lines.{Event}
 use Rattle.sheet.proofs.Entered.{same_event}
 use Rattle.sheet.proofs.entries.run_entry.Goals as goal
 use Rattle.sheet.specs.Entries.{asked_in}
-use Rattle.sheet.specs.Lines.{asked_of}
 use Rattle.sheet.specs.Sheets.{opening_of, standing_of}
 use Rattle.std.proofs.lemmas.List.{with_items_is}
 

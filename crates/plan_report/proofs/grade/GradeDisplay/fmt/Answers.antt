@@ -3,7 +3,7 @@ use Rattle.plan_report.specs.Texts.{grade_words}
 use Rattle.saved_file.specs.ByItself.{kind_number}
 use Rattle.saved_file.specs.declared.head.KindName.{KindName}
 use Rattle.std.proofs.Output.{has_written_of_eq}
-use Rattle.std.proofs.Common.{◌≡◌, sym, ap}
+use Rattle.std.proofs.Common.{sym, ap}
 
 pub returns-in-OfRatings-clause-writes : goal.returns-in-OfRatings-clause-writes
 returns-in-OfRatings-clause-writes g c plain ok =

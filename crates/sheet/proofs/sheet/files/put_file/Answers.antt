@@ -1,4 +1,4 @@
-use Rattle.std.proofs.Common.{ℕ, ap, ◌∙◌}
+use Rattle.std.proofs.Common.{ap, ◌∙◌}
 use Rattle.file_loading.specs.Loaded.{with_records}
 use Rattle.sheet.proofs.sheet.files.put_file.Goals as goal
 
