@@ -1,7 +1,6 @@
 -- A plan drawn once more into the same buffers is answered as if it were drawn for the first time.
-use Rattle.std.proofs.Common.{◌≡◌, ℕ, ◌≤◌, Bool, List, [], ◌∷◌, length, take, Ok, Err, Option, Result, sym, ap, ◌∙◌, subst, arith, length-take}
-use Rattle.matching.specs.Answers.{Answered, Marks, Room, PlanWritten, ShortWritten, NoRoom}
-use Rattle.matching.specs.Plans.{FullPlan}
+use Rattle.std.proofs.Common.{◌≡◌, ℕ, ◌≤◌, Bool, List, length, take, Ok, Err, Option, Result, ap, ◌∙◌, subst, arith, length-take}
+use Rattle.matching.specs.Answers.{Answered, Marks, Room}
 use Rattle.matching.specs.declared.into.Answer.{Answer}
 use Rattle.matching.specs.declared.into.Answer.TheVariants as answer
 use Rattle.refusals.specs.declared.refusal.Refusal.{Refusal}

@@ -1,5 +1,5 @@
 -- From an answered plan of a filled book to the plan of the table.
-use Rattle.std.proofs.Common.{◌≡◌, ℕ, ◌≤◌, Bool, true, false, cond, ◌&&◌, leb, List, length, IsErrAnd, Some, None, Ok, Err, Option, Result, sym, refl, ap, ◌∙◌, subst, ⊎_elim}
+use Rattle.std.proofs.Common.{◌≡◌, ℕ, ◌≤◌, Bool, cond, ◌&&◌, leb, List, length, IsErrAnd, Some, None, Ok, Err, Option, Result, sym, refl, ap, ◌∙◌, subst, ⊎_elim}
 use Rattle.books.specs.Meaning.{Meaning, count}
 use Rattle.bottleneck.specs.Grades.{valid_grades}
 use Rattle.matching.specs.Answers.{Answered, Room}
@@ -7,7 +7,7 @@ use Rattle.matching.specs.declared.into.Answer.{Answer}
 use Rattle.matching.specs.declared.into.Answer.TheVariants as answer
 use Rattle.refusals.specs.declared.refusal.Refusal.{Refusal}
 use Rattle.refusals.specs.declared.refusal.Refusal.TheVariants as refusal
-use Rattle.std.proofs.lemmas.Bool.{and_from, and_left, and_parts, and_right, cases_Bool, cases_lt, cond-false, cond-true, le-leb, leb-true, lt-leb}
+use Rattle.std.proofs.lemmas.Bool.{and_from, and_parts, cases_Bool, cond-false, cond-true, le-leb, leb-true, lt-leb}
 use Rattle.timing.specs.Table.{Overfull, sheet_of}
 use Rattle.timing.specs.Timed.{DrawnAs, reason_in_book}
 

@@ -1,5 +1,5 @@
 -- One code after the other goes into a book, until all are in or the limit stops it.
-use Rattle.std.proofs.Common.{◌≡◌, ℕ, ◌+◌, ◌-◌, ◌*◌, ◌<◌, ◌≤◌, Bool, true, false, cond, not, eqb, ◌⊎◌, List, get_or, is_some, is_ok, IsErrAnd, Some, None, Ok, Err, Option, Result, sym, refl, ap, ◌∙◌, subst, inl, inr, ⊎_elim, arith, MatchResult}
+use Rattle.std.proofs.Common.{◌≡◌, ℕ, ◌+◌, ◌*◌, ◌<◌, ◌≤◌, Bool, true, false, cond, not, eqb, ◌⊎◌, List, get_or, is_some, is_ok, IsErrAnd, Some, None, Ok, Err, Option, Result, sym, refl, ap, ◌∙◌, subst, inl, inr, ⊎_elim, arith, MatchResult}
 use Rattle.books.proofs.Outcomes.{put_accepted, put_declined, put_makes, same_meaning}
 use Rattle.books.proofs.Standing.{changed_other, changed_same, count_from_empty, standing_changed}
 use Rattle.books.specs.Changes.{put_after, put_answer}

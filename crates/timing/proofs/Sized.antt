@@ -1,5 +1,5 @@
 -- From the sizes that were checked to the two numbers that were given.
-use Rattle.std.proofs.Common.{◌≡◌, ℕ, true, false, cond, List, Some, Ok, Err, Option, Result, sym, refl, ap, ◌∙◌, subst, ⊎_elim, arith}
+use Rattle.std.proofs.Common.{◌≡◌, ℕ, true, List, Some, Ok, Err, Option, Result, sym, refl, ap, ◌∙◌, subst, ⊎_elim, arith}
 use Rattle.books.specs.Checked.{sizes_of}
 use Rattle.books.specs.Limits.{within}
 use Rattle.books.specs.Meaning.{Blank, Meaning}

@@ -1,5 +1,5 @@
 -- What a call that draws the plan of a table of codes over a book answers, and what it leaves.
-use Rattle.std.specs.Prelude.{◌≡◌, ℕ, Bool, cond, not, ◌&&◌, ◌||◌, List, length, Some, None, Ok, Err, Option, Result, ◌==◌, nat_le}
+use Rattle.std.specs.Prelude.{◌≡◌, ℕ, Bool, cond, ◌&&◌, ◌||◌, List, length, Some, None, Ok, Err, Option, Result, ◌==◌, nat_le}
 use Rattle.books.specs.Limits.{within}
 use Rattle.books.specs.Meaning.{count}
 use Rattle.bottleneck.specs.Grades.{valid_grades}

@@ -1,4 +1,4 @@
-use Rattle.std.proofs.Common.{◌≡◌, ℕ, ◌*◌, ◌<◌, ◌≤◌, Bool, true, List, length, take, sym, refl, ap, ◌∙◌, arith}
+use Rattle.std.proofs.Common.{◌≡◌, ℕ, ◌*◌, ◌<◌, ◌≤◌, Bool, List, length, take, sym, refl, ap, ◌∙◌, arith}
 use Rattle.exports.proofs.Codes.{all_count}
 use Rattle.exports.proofs.Reasons.{few_codes, no_reason, planned_as, short_as, wrong_codes}
 use Rattle.exports.proofs.planning.plan_in.Goals as goal

@@ -1,6 +1,5 @@
 use Rattle.books.specs.Checked.{sizes_of}
 use Rattle.list_book.specs.Meant.{meant}
-use Rattle.refusals.specs.declared.refusal.Refusal.{Refusal}
 use Rattle.std.proofs.Common.{Err}
 use Rattle.timing.proofs.Sized.{drawn_in_sizes, drawn_not, of_blank}
 use Rattle.timing.proofs.exports.timing_list_plan.Goals as goal

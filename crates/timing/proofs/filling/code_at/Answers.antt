@@ -1,5 +1,5 @@
 use Rattle.timing.proofs.filling.code_at.Goals as goal
-use Rattle.std.proofs.Common.{length, sym, arith}
+use Rattle.std.proofs.Common.{sym, arith}
 use lib.ListN.{get_or-eq_default}
 
 pub returns-else-at-codes : goal.returns-else-at-codes

@@ -1,4 +1,4 @@
-use Rattle.std.proofs.Common.{◌≡◌, ◌≤◌, sym, refl, ap, ◌∙◌, subst, arith}
+use Rattle.std.proofs.Common.{◌≡◌, ◌≤◌, refl, ap, ◌∙◌, subst, arith}
 use Rattle.books.specs.Meaning.{count}
 use Rattle.timing.proofs.Rows.{all_rows, empty_start, handed_on, in_sizes, next_row}
 use Rattle.timing.proofs.filling.fill.Goals as goal
