@@ -2,8 +2,8 @@
 #![tactic(auto)]
 
 #[cfg(test)]
-mod lengths;
+mod bad_lines;
 #[cfg(test)]
-mod pages;
+mod lengths;
 #[cfg(test)]
 mod slips;

@@ -1,5 +1,5 @@
 // Reasons that meet on a sheet over a list book at its limit, and files that are too long for it.
-use super::pages::{Trial, run_trials, tried};
+use super::on_pages::{Trial, run_trials, tried};
 use books::{Book, Sizes};
 use grades::Points;
 use list_book::ListBook;

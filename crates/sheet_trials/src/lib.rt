@@ -6,4 +6,4 @@ mod codes;
 #[cfg(test)]
 mod full;
 #[cfg(test)]
-mod pages;
+mod on_pages;

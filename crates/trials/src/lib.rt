@@ -2,6 +2,6 @@
 #![tactic(auto)]
 
 #[cfg(test)]
-mod books;
+mod both_books;
 #[cfg(test)]
-mod grades;
+mod codes;
