@@ -11,6 +11,7 @@ use input::read_book;
 use output::print_package;
 use problem::Problem;
 use std::io::Read;
+use std::process::ExitCode;
 
 const MOST_BYTES: u64 = 65_536;
 
@@ -27,10 +28,13 @@ fn run(rt: &HostRuntime) -> anyhow::Result<()> {
     Ok(())
 }
 
-fn main(rt: HostRuntime) -> anyhow::Result<()> {
-    let result = run(&rt);
-    if let Err(problem) = &result {
-        eprintln!(rt; "{problem}")?;
+// A problem is one line on standard error, and the status is then 1.
+fn main(rt: HostRuntime) -> ExitCode {
+    match run(&rt) {
+        Ok(()) => ExitCode::SUCCESS,
+        Err(problem) => {
+            let _ = eprintln!(rt; "{problem}");
+            ExitCode::FAILURE
+        }
     }
-    result
 }
