@@ -1,7 +1,7 @@
 -- Who has whom, noted by translator: at place j stands the number of the package that translator
 -- j + 1 has, and 0 where it has none. A pattern C says of the numbers of a package and a translator
 -- whether the two may be matched.
-use Rattle.std.specs.Prelude.{◌≡◌, ℕ, ◌+◌, ◌<◌, Bool, true, false, ◌⊎◌, List, get_or, ◌≢◌, slice_index, slice_index_or}
+use Rattle.std.specs.Prelude.{◌≡◌, ℕ, ◌+◌, ◌<◌, Bool, true, false, ◌⊎◌, List, ◌≢◌, slice_index, slice_index_or}
 
 -- of each translator among the first t: whom it has it may have, and nobody else has them
 pub record Matching (C : ℕ → ℕ → Bool) (t : ℕ) (o : List ℕ) : Type 0 where
@@ -56,5 +56,5 @@ pub record Augmented (C : ℕ → ℕ → Bool) (t : ℕ) (v : List Bool) (i : �
   pub keeps : (k : ℕ) → 0 < k → Has o k → Has n k
   pub only : (k : ℕ) → 0 < k → Has n k → (k ≡ i) ⊎ Has o k
   pub place : ℕ
-  pub placed : get_or n place 0 ≡ i
+  pub placed : slice_index n place ≡ i
   pub first : RuledOut C t o v i place

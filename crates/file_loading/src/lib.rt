@@ -2,14 +2,14 @@
 #![tactic(auto)]
 
 ghost use Rattle.file_loading.specs.Loaded.{RecordsAreTheGrades, with_record, with_records};
-ghost use Rattle.std.specs.Prelude.{◌≡◌, ◌&&◌, leb, if◌then◌else◌, nat_le};
+ghost use Rattle.std.specs.Prelude.{◌≡◌, ◌&&◌, if◌then◌else◌, nat_le};
 
 use books::Book;
 use saved_file::CheckedFile;
 
 // One record, if the file has it.
 fn put_record<B: Book>(file: &CheckedFile<'_>, number: u16, book: &mut B)
-    ensures { B.Reading.meaning book.new ≡ (if leb 1 number && nat_le number file.now.count then with_record B.limit (B.Reading.meaning book.old) file.now.file.now number else B.Reading.meaning book.old) }
+    ensures { B.Reading.meaning book.new ≡ (if nat_le 1 number && nat_le number file.now.count then with_record B.limit (B.Reading.meaning book.old) file.now.file.now number else B.Reading.meaning book.old) }
 {
     if let Some(found) = file.record(number) {
         let _ = book.put(

@@ -1,5 +1,5 @@
 // The lines of a report, each into the text.
-ghost use Rattle.std.specs.Prelude.{◌≡◌, ◌+◌, ◌<◌, ◌≤◌, [], ◌++◌, length, if◌then◌else◌, string_bytes, codes, decimal, OnOk, nat_eq};
+ghost use Rattle.std.specs.Prelude.{◌≡◌, ◌+◌, ◌<◌, ◌≤◌, [], ◌++◌, length, if◌then◌else◌, string_bytes, codes, decimal, OnOk, ◌==◌};
 ghost use Rattle.matching.specs.Answers.{member};
 ghost use Rattle.plan_report.specs.Texts.{members, pair_line, set_line, table, tight_words, short_words, lowest_line, no_plan_line};
 ghost use Rattle.saved_file.specs.ByItself.{kind_number};
@@ -65,7 +65,7 @@ fn write_table(
 
 // The number of a package, where its mark says that it is a member.
 fn write_member(out: &mut String, pkg: usize, mark: u8) -> fmt::Result
-    ensures { OnOk result (string_bytes out.new ≡ string_bytes out.old ++ (if nat_eq mark 1 then codes " " ++ decimal pkg else [])) }
+    ensures { OnOk result (string_bytes out.new ≡ string_bytes out.old ++ (if mark == 1 then codes " " ++ decimal pkg else [])) }
 {
     if mark == 1 {
         write!(out, " {pkg}")?;

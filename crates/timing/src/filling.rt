@@ -1,5 +1,5 @@
 // Filling a book from a table of codes: a row for each package, 0 where there is no grade.
-ghost use Rattle.std.specs.Prelude.{◌≡◌, ◌<◌, ◌≤◌, if◌then◌else◌, Ok, MatchResult, nat_eq, slice_index};
+ghost use Rattle.std.specs.Prelude.{◌≡◌, ◌<◌, ◌≤◌, if◌then◌else◌, Ok, MatchResult, ◌==◌, slice_index};
 ghost use Rattle.books.specs.Changes.{put_after, put_answer};
 ghost use Rattle.books.specs.Meaning.{Empty, count};
 ghost use Rattle.timing.specs.Table.{Overfull, Partly, sheet_of};
@@ -15,8 +15,8 @@ fn code_at(codes: &[u32], at: usize) -> u32
 }
 
 fn put_code<B: Book>(book: &mut B, pkg: u32, translator: u32, code: u32) -> Result<(), Refusal>
-    ensures answer { result ≡ (if nat_eq code 0 then Ok tt else put_answer B.limit (B.Reading.meaning book.old) pkg translator code) }
-    ensures after { B.Reading.meaning book.new ≡ (if nat_eq code 0 then B.Reading.meaning book.old else put_after B.limit (B.Reading.meaning book.old) pkg translator code) }
+    ensures answer { result ≡ (if code == 0 then Ok tt else put_answer B.limit (B.Reading.meaning book.old) pkg translator code) }
+    ensures after { B.Reading.meaning book.new ≡ (if code == 0 then B.Reading.meaning book.old else put_after B.limit (B.Reading.meaning book.old) pkg translator code) }
 {
     if code == 0 {
         return Ok(());

@@ -2,7 +2,7 @@
 ghost use Rattle.bottleneck.specs.Codes.{code_at, table_grades};
 ghost use Rattle.bottleneck.specs.Floors.{from_floor};
 ghost use Rattle.std.specs.Prelude.{◌≡◌};
-ghost use Rattle.std.proofs.Common.{rules, arith};
+ghost use Rattle.std.proofs.Common.{rules};
 
 use super::Table;
 use augmenting::Pattern;
@@ -29,7 +29,7 @@ impl<K: Kind> Pattern for Table<K> {
 
     ghost translators = { λ s. s.translators };
 
-    ghost few = { first_of (Prim.search rules, Prim.grind (arith, Self.row.coded.inj)) };
+    ghost few = { Prim.search rules };
 
     fn translator_count(&self) -> u8 {
         self.translators

@@ -3,7 +3,7 @@ ghost use Rattle.books.specs.Meaning.{Blank};
 ghost use Rattle.list_book.specs.Meant.{meant};
 ghost use Rattle.list_book.specs.Outside.{outside_grade};
 ghost use Rattle.list_book.specs.Table.{listed};
-ghost use Rattle.std.proofs.Common.{rules, arith};
+ghost use Rattle.std.proofs.Common.{rules};
 
 use super::super::entry::Entry;
 use super::super::rows::Rows;
@@ -53,7 +53,7 @@ impl Book for ListBook {
 
     ghost limit = { 1024 };
 
-    ghost limited = { first_of (Prim.search rules, Prim.grind (arith, Self.row.coded.inj)) };
+    ghost limited = { Prim.search rules };
 
     fn grade_limit() -> u16 {
         Self::LIMIT

@@ -1,13 +1,13 @@
 // What a checked file tells.
 ghost use Rattle.file_format.specs.Layout.{record_in, sheet_in, six_bytes, start_of, whole};
-ghost use Rattle.std.specs.Prelude.{◌≡◌, ◌&&◌, leb, length, if◌then◌else◌, Some, None, nat_le};
+ghost use Rattle.std.specs.Prelude.{◌≡◌, ◌&&◌, length, if◌then◌else◌, Some, None, nat_le};
 
 use super::CheckedFile;
 use file_format::{GradeRecord, SheetRecord};
 
 // The grade record at the front of some bytes, if they are enough.
 fn front_record(bytes: &[u8]) -> Option<GradeRecord>
-    ensures { result ≡ (if leb 6 (length bytes.now) then Some (six_bytes bytes.now) else None) }
+    ensures { result ≡ (if nat_le 6 (length bytes.now) then Some (six_bytes bytes.now) else None) }
 {
     let [pkg, translator, c0, c1, c2, c3, ..] = bytes else {
         return None;
@@ -43,7 +43,7 @@ impl<'a> CheckedFile<'a> {
 
     // The grade record of a number, counted from 1, where there is one.
     pub fn record(&self, number: u16) -> Option<GradeRecord>
-        ensures { result ≡ (if leb 1 number && nat_le number self.now.count && whole self.now.file.now (start_of number) 6 then Some (record_in self.now.file.now number) else None) }
+        ensures { result ≡ (if nat_le 1 number && nat_le number self.now.count && whole self.now.file.now (start_of number) 6 then Some (record_in self.now.file.now number) else None) }
     {
         if number < 1 || number > self.count {
             return None;

@@ -7,10 +7,10 @@ use super::{Answer, Outcome};
 use crate::{Draw, Slip};
 use refusals::Refusal;
 
-pub(crate) fn of_done(res: Result<(), Refusal>) -> Answer
-    ensures { (plan set : List ℕ) → told_of result plan set ≡ told_done res plan set }
+pub(crate) fn of_done(answered: Result<(), Refusal>) -> Answer
+    ensures { (plan set : List ℕ) → told_of result plan set ≡ told_done answered plan set }
 {
-    let outcome = match res {
+    let outcome = match answered {
         Ok(()) => Outcome::Done,
         Err(refusal) => Outcome::Refused(refusal),
     };
@@ -20,10 +20,10 @@ pub(crate) fn of_done(res: Result<(), Refusal>) -> Answer
     }
 }
 
-pub(crate) fn of_spent(res: Result<(), (Refusal, Slip)>) -> Answer
-    ensures { (plan set : List ℕ) → told_of result plan set ≡ told_spent res plan set }
+pub(crate) fn of_spent(answered: Result<(), (Refusal, Slip)>) -> Answer
+    ensures { (plan set : List ℕ) → told_of result plan set ≡ told_spent answered plan set }
 {
-    match res {
+    match answered {
         Ok(()) => Answer {
             outcome: Outcome::Done,
             slip: None,
@@ -35,10 +35,10 @@ pub(crate) fn of_spent(res: Result<(), (Refusal, Slip)>) -> Answer
     }
 }
 
-pub(crate) fn of_draw(res: Result<Draw, Refusal>) -> Answer
-    ensures { (plan set : List ℕ) → told_of result plan set ≡ told_draw res plan set }
+pub(crate) fn of_draw(answered: Result<Draw, Refusal>) -> Answer
+    ensures { (plan set : List ℕ) → told_of result plan set ≡ told_draw answered plan set }
 {
-    match res {
+    match answered {
         Ok(Draw::Drawn { lowest, slip }) => Answer {
             outcome: Outcome::Drawn(lowest),
             slip: Some(slip),
@@ -54,10 +54,10 @@ pub(crate) fn of_draw(res: Result<Draw, Refusal>) -> Answer
     }
 }
 
-pub(crate) fn of_show(res: Result<u32, Refusal>) -> Answer
-    ensures { (plan set : List ℕ) → told_of result plan set ≡ told_show res plan set }
+pub(crate) fn of_show(answered: Result<u32, Refusal>) -> Answer
+    ensures { (plan set : List ℕ) → told_of result plan set ≡ told_show answered plan set }
 {
-    let outcome = match res {
+    let outcome = match answered {
         Ok(lowest) => Outcome::Shown(lowest),
         Err(refusal) => Outcome::Refused(refusal),
     };
