@@ -6,7 +6,8 @@ usage: python3 tools/respell.py [--list]      at the top of the repository, once
 
 Names are taken from specs/ and proofs/, where they are declared: signatures, fields, constructors.
 A name that a proof file gives to a goal of the check stays, and so does a name that the library has.
-What is renamed is written in antt or in a clause; code, comments, strings, inputs and outputs stay.
+Only names with a hyphen are respelled, and the two of IN_FILE; comments, strings, inputs and outputs
+stay, and so does code, which has no such name.
 """
 
 import os

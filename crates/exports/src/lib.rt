@@ -30,7 +30,7 @@ pub extern "C" fn planning_sheet_plan(
     set: &mut [u8],
     lowest: &mut u32,
 ) -> u32
-    ensures { Told result (PlannedAs (above_in kind) (right_in kind (take (packages * translators) codes.now)) packages translators codes.now (record { plan = plan.entry.now; set = set.old; lowest = lowest.old }) (record { plan = plan.exit.now; set = set.new; lowest = lowest.new })) }
+    ensures { Told result (PlannedAs (above_in kind) (right_in kind (take (packages * translators) codes.now)) packages translators codes.now (record { plan = plan.old; set = set.old; lowest = lowest.old }) (record { plan = plan.new; set = set.new; lowest = lowest.new })) }
 {
     number_of(plan_from_codes(kind, packages, translators, codes, plan, set, lowest))
 }

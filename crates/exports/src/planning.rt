@@ -19,7 +19,7 @@ fn plan_in<K: Kind>(
     set: &mut [u8],
     lowest: &mut u32,
 ) -> Result<Reply, Failure>
-    ensures { PlannedAs K.above (codes_right K.valid (take (sizes.packages * sizes.translators) codes.now)) sizes.packages sizes.translators codes.now (record { plan = plan.entry.now; set = set.old; lowest = lowest.old }) (record { plan = plan.exit.now; set = set.new; lowest = lowest.new }) result }
+    ensures { PlannedAs K.above (codes_right K.valid (take (sizes.packages * sizes.translators) codes.now)) sizes.packages sizes.translators codes.now (record { plan = plan.old; set = set.old; lowest = lowest.old }) (record { plan = plan.new; set = set.new; lowest = lowest.new }) result }
 {
     let pairs = pairs_of(sizes);
     // a wrong code is told before a table that is too short
@@ -52,7 +52,7 @@ pub(crate) fn plan_from_codes(
     set: &mut [u8],
     lowest: &mut u32,
 ) -> Result<Reply, Failure>
-    ensures { PlannedAs (above_in kind) (right_in kind (take (packages * translators) codes.now)) packages translators codes.now (record { plan = plan.entry.now; set = set.old; lowest = lowest.old }) (record { plan = plan.exit.now; set = set.new; lowest = lowest.new }) result }
+    ensures { PlannedAs (above_in kind) (right_in kind (take (packages * translators) codes.now)) packages translators codes.now (record { plan = plan.old; set = set.old; lowest = lowest.old }) (record { plan = plan.new; set = set.new; lowest = lowest.new }) result }
 {
     let sizes = Sizes::check(packages, translators)?;
     match kind {

@@ -1,4 +1,4 @@
--- The worked file of the rules: its grades, its bytes, and three damaged forms with their faults.
+-- The worked file of the rules: its grades, its bytes, and its damaged forms with their faults.
 use Rattle.std.specs.Prelude.{◌≡◌, ℕ, List, [], ◌∷◌, ◌++◌, take, Some, None, Option, slice_set}
 use Rattle.books.specs.Meaning.{changed}
 use Rattle.file_format.specs.FileOf.{file_of, grade_in}

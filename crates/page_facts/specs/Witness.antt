@@ -1,4 +1,4 @@
--- One short page on which every call and every outcome occurs, so that no fact of pages is empty.
+-- One short page on which every call and every kind of outcome occurs.
 use Rattle.std.specs.Prelude.{ℕ, List, [], ◌∷◌, Some, None, Option}
 use Rattle.grades.specs.Points.{above_points, valid_points}
 use Rattle.pages.specs.Answers.{Page}

@@ -115,7 +115,8 @@ pub fn worked_file() -> u8
     0
 }
 
-// A page of eleven lines with every call and every outcome: what holds of every page holds of some.
+// A page of eleven lines with every call and every kind of outcome: what holds of every page holds of
+// some.
 pub fn there_is_a_page() -> u8
     ensures { ThereIsAPage }
 {
