@@ -9,7 +9,7 @@ use saved_file::CheckedFile;
 
 // One record, if the file has it.
 fn put_record<B: Book>(file: &CheckedFile<'_>, number: u16, book: &mut B)
-    ensures { B.Reading.meaning book.new ≡ (if nat_le 1 number && nat_le number file.now.count then with_record B.limit (B.Reading.meaning book.old) file.now.file.now number else B.Reading.meaning book.old) }
+    ensures { B.Reading.meaning book.new ≡ (if nat_le 1 number && nat_le number file.now.count then with_record B.LIMIT (B.Reading.meaning book.old) file.now.file.now number else B.Reading.meaning book.old) }
 {
     if let Some(found) = file.record(number) {
         let _ = book.put(
@@ -22,7 +22,7 @@ fn put_record<B: Book>(file: &CheckedFile<'_>, number: u16, book: &mut B)
 
 // All records, in the order of the file.
 pub fn put_records<B: Book>(file: &CheckedFile<'_>, book: &mut B)
-    ensures after { B.Reading.meaning book.new ≡ with_records B.limit (B.Reading.meaning book.old) file.now.file.now file.now.count }
+    ensures after { B.Reading.meaning book.new ≡ with_records B.LIMIT (B.Reading.meaning book.old) file.now.file.now file.now.count }
     ensures grades { RecordsAreTheGrades }
 {
     for done in 0..file.count() {

@@ -10,7 +10,7 @@ use std::alloc::{AllocError, Global};
 fn kind_name(number: u8) -> &'static str
     ensures { result.now ≡ kind_word number }
 {
-    if number == Points::kind_number() {
+    if number == Points::NUMBER {
         "points"
     } else {
         "ratings"

@@ -14,16 +14,12 @@ pub use ratings::Ratings;
 pub trait Kind {
     const NUMBER: u8;
 
-    ghost number: { ℕ };
+    ghost NUMBER: { ℕ };
 
     ghost valid: { ℕ → Bool };
 
     // of two valid codes; what it says of any other code is the kind's own affair
     ghost above: { ℕ → ℕ → Bool };
-
-    // `NUMBER`, tied to the meaning: a clause cannot read an associated constant.
-    fn kind_number() -> u8
-        ensures { result ≡ number };
 
     fn is_valid(code: u32) -> bool
         ensures { result ≡ valid code };
@@ -31,7 +27,7 @@ pub trait Kind {
     fn is_above(first: u32, second: u32) -> bool
         ensures { result ≡ above first second };
 
-    ghost numbered: { (1 ≤ number) × (number ≤ 255) };
+    ghost numbered: { (1 ≤ NUMBER) × (NUMBER ≤ 255) };
 
     ghost order: { Order valid above };
 }

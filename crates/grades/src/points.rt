@@ -12,7 +12,7 @@ pub struct Points;
 impl Kind for Points {
     const NUMBER: u8 = 1;
 
-    ghost number = { 1 };
+    ghost NUMBER = { 1 };
 
     ghost valid = { valid_points };
 
@@ -21,10 +21,6 @@ impl Kind for Points {
     ghost numbered = { Prim.search rules };
 
     ghost order = { Prim.search rules };
-
-    fn kind_number() -> u8 {
-        Self::NUMBER
-    }
 
     fn is_valid(code: u32) -> bool {
         1 <= code && code <= MOST_POINTS

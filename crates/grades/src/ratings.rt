@@ -33,7 +33,7 @@ fn read_rating(code: u32) -> Option<Rating>
 impl Kind for Ratings {
     const NUMBER: u8 = 2;
 
-    ghost number = { 2 };
+    ghost NUMBER = { 2 };
 
     ghost valid = { valid_rating };
 
@@ -42,10 +42,6 @@ impl Kind for Ratings {
     ghost numbered = { Prim.search rules };
 
     ghost order = { Prim.search rules };
-
-    fn kind_number() -> u8 {
-        Self::NUMBER
-    }
 
     fn is_valid(code: u32) -> bool {
         read_rating(code).is_some()

@@ -39,7 +39,7 @@ fn layer_name(layer: Layer) -> &'static str
 fn kind_name(number: u8) -> &'static str
     ensures { result.now ≡ kind_word number }
 {
-    if number == Points::kind_number() {
+    if number == Points::NUMBER {
         "points"
     } else {
         "ratings"

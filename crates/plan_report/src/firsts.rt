@@ -22,8 +22,8 @@ fn number_of(kind: KindName) -> u8
     ensures { result ≡ kind_number kind }
 {
     match kind {
-        KindName::OfPoints => Points::kind_number(),
-        KindName::OfRatings => Ratings::kind_number(),
+        KindName::OfPoints => Points::NUMBER,
+        KindName::OfRatings => Ratings::NUMBER,
     }
 }
 

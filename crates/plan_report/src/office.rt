@@ -17,7 +17,7 @@ const MANAGER: u32 = 3;
 const TAG: u32 = 1;
 
 fn open_sheet<K: Kind>(sizes: Sizes) -> Sheet<TableBook, K>
-    ensures { RanOn K.number K.valid K.above sizes.packages sizes.translators [] result }
+    ensures { RanOn K.NUMBER K.valid K.above sizes.packages sizes.translators [] result }
 {
     match Sheet::open(TableBook::new(sizes), TAG) {
         Ok(sheet) => sheet,
@@ -33,7 +33,7 @@ fn draw_file<K: Kind + Drop>(
     plan: &mut [u16],
     set: &mut [u8],
 ) -> Option<u32>
-    requires right { Right (just K.number K.valid sizes.packages sizes.translators) file.now }
+    requires right { Right (just K.NUMBER K.valid sizes.packages sizes.translators) file.now }
     requires room { (48 ≤ length plan.old) × (48 ≤ length set.old) }
     ensures { Settled K.above (grade_in file.now) sizes.packages sizes.translators plan.new set.new result }
 {

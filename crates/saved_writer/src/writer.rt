@@ -81,9 +81,9 @@ fn write_rows<R: Reading>(book: &R, out: &mut [u8])
 
 // Writes the file at the start of a buffer and answers its length.
 pub fn write_file<K: Kind, R: Reading>(book: &R, out: &mut [u8]) -> Result<usize, Refusal>
-    ensures answer { result ≡ write_answer (file_of_meaning K.number (R.meaning book.now)) out.old }
-    ensures after { out.new ≡ write_after (file_of_meaning K.number (R.meaning book.now)) out.old }
-    ensures read_back { OnOk result (ReadsBack K.number K.valid (R.meaning book.now)) }
+    ensures answer { result ≡ write_answer (file_of_meaning K.NUMBER (R.meaning book.now)) out.old }
+    ensures after { out.new ≡ write_after (file_of_meaning K.NUMBER (R.meaning book.now)) out.old }
+    ensures read_back { OnOk result (ReadsBack K.NUMBER K.valid (R.meaning book.now)) }
 {
     let count = standing_grades(book);
     let length = 7 + 6 * usize::from(count);
@@ -92,7 +92,7 @@ pub fn write_file<K: Kind, R: Reading>(book: &R, out: &mut [u8]) -> Result<usize
     }
     write_head(
         out,
-        K::kind_number(),
+        K::NUMBER,
         book.packages(),
         book.translators(),
         count,

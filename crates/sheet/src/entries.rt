@@ -67,7 +67,7 @@ pub struct Entry {
 // Runs every line in turn. Whatever history led to the sheet grows by these lines, all and in order,
 // with the answers that the entries then hold; and of every history holds what `call` says.
 pub fn run_page<B: Book, K: Kind>(sheet: &mut Sheet<B, K>, page: &mut [Entry])
-    ensures ran { (o : Opened) (h : List Event) → Ran o h (opening_of B.limit K.number K.valid K.above B.Reading.meaning sheet.old) (standing_of B.Reading.meaning sheet.old) → Ran o (run_on h (events_in page.old page.new)) (opening_of B.limit K.number K.valid K.above B.Reading.meaning sheet.new) (standing_of B.Reading.meaning sheet.new) }
+    ensures ran { (o : Opened) (h : List Event) → Ran o h (opening_of B.LIMIT K.NUMBER K.valid K.above B.Reading.meaning sheet.old) (standing_of B.Reading.meaning sheet.old) → Ran o (run_on h (events_in page.old page.new)) (opening_of B.LIMIT K.NUMBER K.valid K.above B.Reading.meaning sheet.new) (standing_of B.Reading.meaning sheet.new) }
     ensures refused { RefusedForTheFirstReason }
     ensures drawn { DrawnLinesHaveTheBestPlan }
     ensures short { ShortLinesHaveNoPlan }
@@ -86,7 +86,7 @@ pub fn run_page<B: Book, K: Kind>(sheet: &mut Sheet<B, K>, page: &mut [Entry])
 }
 
 fn run_entries<B: Book, K: Kind>(sheet: &mut Sheet<B, K>, page: &mut [Entry])
-    ensures { (o : Opened) (h : List Event) → Ran o h (opening_of B.limit K.number K.valid K.above B.Reading.meaning sheet.old) (standing_of B.Reading.meaning sheet.old) → Ran o (run_on h (events_in page.old page.new)) (opening_of B.limit K.number K.valid K.above B.Reading.meaning sheet.new) (standing_of B.Reading.meaning sheet.new) }
+    ensures { (o : Opened) (h : List Event) → Ran o h (opening_of B.LIMIT K.NUMBER K.valid K.above B.Reading.meaning sheet.old) (standing_of B.Reading.meaning sheet.old) → Ran o (run_on h (events_in page.old page.new)) (opening_of B.LIMIT K.NUMBER K.valid K.above B.Reading.meaning sheet.new) (standing_of B.Reading.meaning sheet.new) }
 {
     for e in page.iter_mut() {
         run_entry(sheet, e);
@@ -94,7 +94,7 @@ fn run_entries<B: Book, K: Kind>(sheet: &mut Sheet<B, K>, page: &mut [Entry])
 }
 
 fn run_entry<B: Book, K: Kind>(sheet: &mut Sheet<B, K>, entry: &mut Entry)
-    ensures { (o : Opened) (h : List Event) → Ran o h (opening_of B.limit K.number K.valid K.above B.Reading.meaning sheet.old) (standing_of B.Reading.meaning sheet.old) → Ran o (event_in entry.old entry.new ∷ h) (opening_of B.limit K.number K.valid K.above B.Reading.meaning sheet.new) (standing_of B.Reading.meaning sheet.new) }
+    ensures { (o : Opened) (h : List Event) → Ran o h (opening_of B.LIMIT K.NUMBER K.valid K.above B.Reading.meaning sheet.old) (standing_of B.Reading.meaning sheet.old) → Ran o (event_in entry.old entry.new ∷ h) (opening_of B.LIMIT K.NUMBER K.valid K.above B.Reading.meaning sheet.new) (standing_of B.Reading.meaning sheet.new) }
 {
     let line = line_of(entry.ask, &entry.file);
     let Answer { outcome, slip } = sheet.call(line, &mut entry.plan, &mut entry.set);

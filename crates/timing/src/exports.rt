@@ -42,7 +42,7 @@ fn plan_in_kind<B: Book, K: Kind>(
     set: &mut [u8],
 ) -> Result<Answer, Refusal>
     requires { Empty (B.Reading.meaning book.old) }
-    ensures { DrawnAs K.valid K.above (reason_in_book B.limit (B.Reading.meaning book.old).packages (B.Reading.meaning book.old).translators codes.now plan.old set.old) (B.Reading.meaning book.old).packages (B.Reading.meaning book.old).translators codes.now plan.old set.old plan.new set.new result }
+    ensures { DrawnAs K.valid K.above (reason_in_book B.LIMIT (B.Reading.meaning book.old).packages (B.Reading.meaning book.old).translators codes.now plan.old set.old) (B.Reading.meaning book.old).packages (B.Reading.meaning book.old).translators codes.now plan.old set.old plan.new set.new result }
 {
     fill(book, codes)?;
     plan_again::<B, K>(book, repeats, plan, set)
@@ -57,7 +57,7 @@ fn plan_of<B: Book>(
     set: &mut [u8],
 ) -> Result<Answer, Refusal>
     requires { Empty (B.Reading.meaning book.old) }
-    ensures { DrawnAs (valid_in kind) (above_in kind) (reason_in_kind B.limit kind (B.Reading.meaning book.old).packages (B.Reading.meaning book.old).translators codes.now plan.old set.old) (B.Reading.meaning book.old).packages (B.Reading.meaning book.old).translators codes.now plan.old set.old plan.new set.new result }
+    ensures { DrawnAs (valid_in kind) (above_in kind) (reason_in_kind B.LIMIT kind (B.Reading.meaning book.old).packages (B.Reading.meaning book.old).translators codes.now plan.old set.old) (B.Reading.meaning book.old).packages (B.Reading.meaning book.old).translators codes.now plan.old set.old plan.new set.new result }
 {
     match kind {
         1 => plan_in_kind::<B, Points>(book, codes, repeats, plan, set),

@@ -15,8 +15,8 @@ fn code_at(codes: &[u32], at: usize) -> u32
 }
 
 fn put_code<B: Book>(book: &mut B, pkg: u32, translator: u32, code: u32) -> Result<(), Refusal>
-    ensures answer { result ≡ (if code == 0 then Ok tt else put_answer B.limit (B.Reading.meaning book.old) pkg translator code) }
-    ensures after { B.Reading.meaning book.new ≡ (if code == 0 then B.Reading.meaning book.old else put_after B.limit (B.Reading.meaning book.old) pkg translator code) }
+    ensures answer { result ≡ (if code == 0 then Ok tt else put_answer B.LIMIT (B.Reading.meaning book.old) pkg translator code) }
+    ensures after { B.Reading.meaning book.new ≡ (if code == 0 then B.Reading.meaning book.old else put_after B.LIMIT (B.Reading.meaning book.old) pkg translator code) }
 {
     if code == 0 {
         return Ok(());
@@ -27,10 +27,10 @@ fn put_code<B: Book>(book: &mut B, pkg: u32, translator: u32, code: u32) -> Resu
 // The codes of one package, below rows that are filled.
 fn fill_row<B: Book>(book: &mut B, codes: &[u32], row: u8) -> Result<(), Refusal>
     requires row { row < (B.Reading.meaning book.old).packages }
-    requires filled { Partly B.limit codes.now row 0 (B.Reading.meaning book.old) }
+    requires filled { Partly B.LIMIT codes.now row 0 (B.Reading.meaning book.old) }
     ensures packages { (B.Reading.meaning book.new).packages ≡ (B.Reading.meaning book.old).packages }
     ensures translators { (B.Reading.meaning book.new).translators ≡ (B.Reading.meaning book.old).translators }
-    ensures answer { MatchResult result (λ _. Partly B.limit codes.now row (B.Reading.meaning book.new).translators (B.Reading.meaning book.new)) (λ e. Overfull B.limit (B.Reading.meaning book.old).packages (B.Reading.meaning book.old).translators codes.now e) }
+    ensures answer { MatchResult result (λ _. Partly B.LIMIT codes.now row (B.Reading.meaning book.new).translators (B.Reading.meaning book.new)) (λ e. Overfull B.LIMIT (B.Reading.meaning book.old).packages (B.Reading.meaning book.old).translators codes.now e) }
 {
     let translators = book.translators();
     for column in 0..translators {
@@ -44,7 +44,7 @@ fn fill_row<B: Book>(book: &mut B, codes: &[u32], row: u8) -> Result<(), Refusal
 // Puts every code of the table, or stops where the book is full.
 pub(crate) fn fill<B: Book>(book: &mut B, codes: &[u32]) -> Result<(), Refusal>
     requires { Empty (B.Reading.meaning book.old) }
-    ensures { MatchResult result (λ _. (count (B.Reading.meaning book.new) ≤ B.limit) × (B.Reading.meaning book.new ≡ sheet_of (B.Reading.meaning book.old).packages (B.Reading.meaning book.old).translators codes.now)) (λ e. Overfull B.limit (B.Reading.meaning book.old).packages (B.Reading.meaning book.old).translators codes.now e) }
+    ensures { MatchResult result (λ _. (count (B.Reading.meaning book.new) ≤ B.LIMIT) × (B.Reading.meaning book.new ≡ sheet_of (B.Reading.meaning book.old).packages (B.Reading.meaning book.old).translators codes.now)) (λ e. Overfull B.LIMIT (B.Reading.meaning book.old).packages (B.Reading.meaning book.old).translators codes.now e) }
 {
     for row in 0..book.packages() {
         fill_row(book, codes, row)?;

@@ -4,4 +4,4 @@ use Rattle.std.proofs.Common.{◌≡◌}
 
 abbrev pub invariant-loop-done : goal.invariant-loop-done
 invariant-loop-done g l =
-    g.B.Reading.meaning l.book ≡ with_records g.B.Book.limit (g.B.Reading.meaning l.initial.book) l.file.file.now l.done
+    g.B.Reading.meaning l.book ≡ with_records g.B.Book.LIMIT (g.B.Reading.meaning l.initial.book) l.file.file.now l.done

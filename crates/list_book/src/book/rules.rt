@@ -51,13 +51,9 @@ impl Reading for ListBook {
 impl Book for ListBook {
     const LIMIT: u16 = 1024;
 
-    ghost limit = { 1024 };
+    ghost LIMIT = { 1024 };
 
     ghost limited = { Prim.search rules };
-
-    fn grade_limit() -> u16 {
-        Self::LIMIT
-    }
 
     fn put(&mut self, pkg: u32, translator: u32, code: u32) -> Result<(), Refusal> {
         if !self.sizes.holds(pkg, translator) {

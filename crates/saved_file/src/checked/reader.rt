@@ -13,7 +13,7 @@ use refusals::Fault;
 
 // How many grade records a right file has; else its fault.
 fn read_sections<K: Kind>(file: &[u8], sizes: Sizes) -> Result<u16, Fault>
-    ensures { MatchResult result (λ n. (n ≡ count_in file.now) × Right (just K.number K.valid sizes.packages sizes.translators) file.now) (λ fault. Faulty (just K.number K.valid sizes.packages sizes.translators) file.now fault) }
+    ensures { MatchResult result (λ n. (n ≡ count_in file.now) × Right (just K.NUMBER K.valid sizes.packages sizes.translators) file.now) (λ fault. Faulty (just K.NUMBER K.valid sizes.packages sizes.translators) file.now fault) }
 {
     let mut cursor = Cursor::new(file);
     cursor.first_section::<K>(sizes)?;
@@ -25,8 +25,8 @@ fn read_sections<K: Kind>(file: &[u8], sizes: Sizes) -> Result<u16, Fault>
 // Checks a file against a kind and sizes. Nothing is changed; the first fault met is told. A file is
 // accepted exactly when it is the file of grades of the kind in these sizes: those in it.
 pub fn check_file<'a, K: Kind>(file: &'a [u8], sizes: Sizes) -> Result<CheckedFile<'a>, Fault>
-    ensures told { MatchResult result (λ f. (f.file.now ≡ file.now) × (f.count ≡ count_in file.now) × Right (just K.number K.valid sizes.packages sizes.translators) file.now) (λ fault. Faulty (just K.number K.valid sizes.packages sizes.translators) file.now fault) }
-    ensures accepted { MatchResult result (λ _. Graded K.valid sizes.packages sizes.translators (grade_in file.now) × (file.now ≡ file_of K.number sizes.packages sizes.translators (grade_in file.now))) (λ _. (G : ℕ → ℕ → Optional ℕ) → Graded K.valid sizes.packages sizes.translators G → file.now ≢ file_of K.number sizes.packages sizes.translators G) }
+    ensures told { MatchResult result (λ f. (f.file.now ≡ file.now) × (f.count ≡ count_in file.now) × Right (just K.NUMBER K.valid sizes.packages sizes.translators) file.now) (λ fault. Faulty (just K.NUMBER K.valid sizes.packages sizes.translators) file.now fault) }
+    ensures accepted { MatchResult result (λ _. Graded K.valid sizes.packages sizes.translators (grade_in file.now) × (file.now ≡ file_of K.NUMBER sizes.packages sizes.translators (grade_in file.now))) (λ _. (G : ℕ → ℕ → Optional ℕ) → Graded K.valid sizes.packages sizes.translators G → file.now ≢ file_of K.NUMBER sizes.packages sizes.translators G) }
     ensures once { RightOrOneFault }
     ensures same { SameGradesSameBytes }
 {

@@ -14,10 +14,10 @@ use refusals::{Cause, Fault};
 fn kind_named(number: u8) -> Option<KindName>
     ensures { option_map kind_number result ≡ (if known_kind number then Some number else None) }
 {
-    if number == Points::kind_number() {
+    if number == Points::NUMBER {
         return Some(KindName::OfPoints);
     }
-    if number == Ratings::kind_number() {
+    if number == Ratings::NUMBER {
         return Some(KindName::OfRatings);
     }
     None

@@ -44,12 +44,12 @@ impl<'a> Cursor<'a> {
     // The record of section 1, of the kind and the sizes expected.
     pub fn sheet_record_of<K: Kind>(&mut self, sizes: Sizes) -> Result<(), Fault>
         requires { self.old.at ≡ 2 }
-        ensures value { result ≡ answer (first_broken (sheet_rules (just K.number K.valid sizes.packages sizes.translators) self.old.file.now)) 1 1 2 tt }
+        ensures value { result ≡ answer (first_broken (sheet_rules (just K.NUMBER K.valid sizes.packages sizes.translators) self.old.file.now)) 1 1 2 tt }
         ensures file { self.new.file.now ≡ self.old.file.now }
         ensures moved { is_ok result ≡ true → self.new.at ≡ 5 }
     {
         let found = self.sheet_record()?;
-        if found.kind != K::kind_number() {
+        if found.kind != K::NUMBER {
             return Err(Fault::of(Cause::Kind, 1, 1, 2));
         }
         if found.packages != sizes.packages() || found.translators != sizes.translators() {
@@ -100,7 +100,7 @@ impl<'a> Cursor<'a> {
         number: u16,
         before: Option<GradeRecord>,
     ) -> Result<GradeRecord, Fault>
-        ensures value { result ≡ answer (first_broken (grade_rules (just K.number K.valid sizes.packages sizes.translators) self.old.file.now self.old.at before)) 2 number self.old.at (six_bytes (drop self.old.at self.old.file.now)) }
+        ensures value { result ≡ answer (first_broken (grade_rules (just K.NUMBER K.valid sizes.packages sizes.translators) self.old.file.now self.old.at before)) 2 number self.old.at (six_bytes (drop self.old.at self.old.file.now)) }
         ensures file { self.new.file.now ≡ self.old.file.now }
         ensures moved { is_ok result ≡ true → self.new.at ≡ self.old.at + 6 }
     {

@@ -11,7 +11,7 @@ use refusals::Fault;
 impl<'a> Cursor<'a> {
     pub fn first_section<K: Kind>(&mut self, sizes: Sizes) -> Result<(), Fault>
         requires { self.old.at ≡ 0 }
-        ensures told { MatchResult result (λ _. (self.new.at ≡ 5) × RightPart (just K.number K.valid sizes.packages sizes.translators) self.old.file.now first_count × RightPart (just K.number K.valid sizes.packages sizes.translators) self.old.file.now sheet_record) (λ f. Faulty (just K.number K.valid sizes.packages sizes.translators) self.old.file.now f) }
+        ensures told { MatchResult result (λ _. (self.new.at ≡ 5) × RightPart (just K.NUMBER K.valid sizes.packages sizes.translators) self.old.file.now first_count × RightPart (just K.NUMBER K.valid sizes.packages sizes.translators) self.old.file.now sheet_record) (λ f. Faulty (just K.NUMBER K.valid sizes.packages sizes.translators) self.old.file.now f) }
         ensures file { self.new.file.now ≡ self.old.file.now }
     {
         self.first_count()?;
@@ -23,10 +23,10 @@ impl<'a> Cursor<'a> {
     fn grade_records<K: Kind>(&mut self, sizes: Sizes, count: u16) -> Result<(), Fault>
         requires at { self.old.at ≡ 7 }
         requires count { (count ≡ count_in self.old.file.now) × (count ≤ 3072) }
-        requires first { RightPart (just K.number K.valid sizes.packages sizes.translators) self.old.file.now first_count }
-        requires sheet { RightPart (just K.number K.valid sizes.packages sizes.translators) self.old.file.now sheet_record }
-        requires second { RightPart (just K.number K.valid sizes.packages sizes.translators) self.old.file.now second_count }
-        ensures told { MatchResult result (λ _. (self.new.at ≡ start_of (count + 1)) × RecordsRight (just K.number K.valid sizes.packages sizes.translators) self.old.file.now count) (λ f. Faulty (just K.number K.valid sizes.packages sizes.translators) self.old.file.now f) }
+        requires first { RightPart (just K.NUMBER K.valid sizes.packages sizes.translators) self.old.file.now first_count }
+        requires sheet { RightPart (just K.NUMBER K.valid sizes.packages sizes.translators) self.old.file.now sheet_record }
+        requires second { RightPart (just K.NUMBER K.valid sizes.packages sizes.translators) self.old.file.now second_count }
+        ensures told { MatchResult result (λ _. (self.new.at ≡ start_of (count + 1)) × RecordsRight (just K.NUMBER K.valid sizes.packages sizes.translators) self.old.file.now count) (λ f. Faulty (just K.NUMBER K.valid sizes.packages sizes.translators) self.old.file.now f) }
         ensures file { self.new.file.now ≡ self.old.file.now }
     {
         let mut before = None;
@@ -38,9 +38,9 @@ impl<'a> Cursor<'a> {
 
     pub fn second_section<K: Kind>(&mut self, sizes: Sizes) -> Result<u16, Fault>
         requires at { self.old.at ≡ 5 }
-        requires first { RightPart (just K.number K.valid sizes.packages sizes.translators) self.old.file.now first_count }
-        requires sheet { RightPart (just K.number K.valid sizes.packages sizes.translators) self.old.file.now sheet_record }
-        ensures told { MatchResult result (λ n. (n ≡ count_in self.old.file.now) × (self.new.at ≡ start_of (n + 1)) × RightPart (just K.number K.valid sizes.packages sizes.translators) self.old.file.now second_count × RecordsRight (just K.number K.valid sizes.packages sizes.translators) self.old.file.now n) (λ f. Faulty (just K.number K.valid sizes.packages sizes.translators) self.old.file.now f) }
+        requires first { RightPart (just K.NUMBER K.valid sizes.packages sizes.translators) self.old.file.now first_count }
+        requires sheet { RightPart (just K.NUMBER K.valid sizes.packages sizes.translators) self.old.file.now sheet_record }
+        ensures told { MatchResult result (λ n. (n ≡ count_in self.old.file.now) × (self.new.at ≡ start_of (n + 1)) × RightPart (just K.NUMBER K.valid sizes.packages sizes.translators) self.old.file.now second_count × RecordsRight (just K.NUMBER K.valid sizes.packages sizes.translators) self.old.file.now n) (λ f. Faulty (just K.NUMBER K.valid sizes.packages sizes.translators) self.old.file.now f) }
         ensures file { self.new.file.now ≡ self.old.file.now }
     {
         let count = self.second_count()?;

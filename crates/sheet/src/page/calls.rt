@@ -18,7 +18,7 @@ impl<B: Book, K: Kind> Sheet<B, K> {
     // Runs a line with its own buffers: every history that led to this sheet grows by this line and
     // its answer. The other clauses are what holds over every such history.
     pub fn call(&mut self, line: Line<'_>, plan: &mut [u16], set: &mut [u8]) -> Answer
-        ensures ran { (o : Opened) (h : List Event) → Ran o h (opening_of B.limit K.number K.valid K.above B.Reading.meaning self.old) (standing_of B.Reading.meaning self.old) → Ran o (event_of line.entry plan.old set.old result plan.new set.new ∷ h) (opening_of B.limit K.number K.valid K.above B.Reading.meaning self.new) (standing_of B.Reading.meaning self.new) }
+        ensures ran { (o : Opened) (h : List Event) → Ran o h (opening_of B.LIMIT K.NUMBER K.valid K.above B.Reading.meaning self.old) (standing_of B.Reading.meaning self.old) → Ran o (event_of line.entry plan.old set.old result plan.new set.new ∷ h) (opening_of B.LIMIT K.NUMBER K.valid K.above B.Reading.meaning self.new) (standing_of B.Reading.meaning self.new) }
         ensures refused { RefusedForTheFirstReason }
         ensures drawn { DrawnLinesHaveTheBestPlan }
         ensures short { ShortLinesHaveNoPlan }
@@ -37,7 +37,7 @@ impl<B: Book, K: Kind> Sheet<B, K> {
     }
 
     fn answer_to(&mut self, line: Line<'_>, plan: &mut [u16], set: &mut [u8]) -> Answer
-        ensures { Fits B.Reading.meaning self.old → RanLine B.limit K.number K.valid K.above B.Reading.meaning self.old self.new (asked_of line.entry plan.old set.old) (told_of result plan.new set.new) }
+        ensures { Fits B.Reading.meaning self.old → RanLine B.LIMIT K.NUMBER K.valid K.above B.Reading.meaning self.old self.new (asked_of line.entry plan.old set.old) (told_of result plan.new set.new) }
     {
         match line {
             Line::Grade {

@@ -24,7 +24,7 @@ pub enum Draw {
 impl<B: Book, K: Kind> Sheet<B, K> {
     // Writes the best plan and a tight set, and hands out a slip; or writes a short set.
     pub fn draw(&mut self, role: u32, plan: &mut [u16], set: &mut [u8]) -> Result<Draw, Refusal>
-        ensures { RanLine B.limit K.number K.valid K.above B.Reading.meaning self.old self.new (asked role Call.draw plan.old set.old) (told_draw result plan.new set.new) }
+        ensures { RanLine B.LIMIT K.NUMBER K.valid K.above B.Reading.meaning self.old self.new (asked role Call.draw plan.old set.old) (told_draw result plan.new set.new) }
     {
         match self.may_draw(role) {
             Ok(next) => self.draw_now(next, plan, set),
@@ -40,7 +40,7 @@ impl<B: Book, K: Kind> Sheet<B, K> {
     }
 
     fn draw_now(&mut self, next: Next, plan: &mut [u16], set: &mut [u8]) -> Result<Draw, Refusal>
-        ensures { DrawsNow (opening_of B.limit K.number K.valid K.above B.Reading.meaning self.old) (standing_of B.Reading.meaning self.old) next plan.old set.old plan.new set.new result (opening_of B.limit K.number K.valid K.above B.Reading.meaning self.new) (standing_of B.Reading.meaning self.new) }
+        ensures { DrawsNow (opening_of B.LIMIT K.NUMBER K.valid K.above B.Reading.meaning self.old) (standing_of B.Reading.meaning self.old) next plan.old set.old plan.new set.new result (opening_of B.LIMIT K.NUMBER K.valid K.above B.Reading.meaning self.new) (standing_of B.Reading.meaning self.new) }
     {
         match match_into::<B, K>(&self.book, plan, set)? {
             Answer::Planned { plan: best, lowest } => {
@@ -58,15 +58,15 @@ impl<B: Book, K: Kind> Sheet<B, K> {
     // Writes the published plan and answers its lowest code as drawn. Every plan that is published
     // fits, so the second clause is the first in the words of a page.
     pub fn show(&self, role: u32, plan: &mut [u16]) -> Result<u32, Refusal>
-        ensures answer { result ≡ show_answer (opening_of B.limit K.number K.valid K.above B.Reading.meaning self.now) (standing_of B.Reading.meaning self.now) role plan.old }
+        ensures answer { result ≡ show_answer (opening_of B.LIMIT K.NUMBER K.valid K.above B.Reading.meaning self.now) (standing_of B.Reading.meaning self.now) role plan.old }
         ensures written { plan.new ≡ (if is_ok result then shown_in (standing_of B.Reading.meaning self.now).published plan.old else plan.old) }
-        ensures ran { Fits B.Reading.meaning self.now → (set : List ℕ) → RanLine B.limit K.number K.valid K.above B.Reading.meaning self.now self.now (asked role Call.show plan.old set) (told_show result plan.new set) }
+        ensures ran { Fits B.Reading.meaning self.now → (set : List ℕ) → RanLine B.LIMIT K.NUMBER K.valid K.above B.Reading.meaning self.now self.now (asked role Call.show plan.old set) (told_show result plan.new set) }
     {
         self.show_plan(role, plan)
     }
 
     fn show_plan(&self, role: u32, plan: &mut [u16]) -> Result<u32, Refusal>
-        ensures answer { result ≡ show_answer (opening_of B.limit K.number K.valid K.above B.Reading.meaning self.now) (standing_of B.Reading.meaning self.now) role plan.old }
+        ensures answer { result ≡ show_answer (opening_of B.LIMIT K.NUMBER K.valid K.above B.Reading.meaning self.now) (standing_of B.Reading.meaning self.now) role plan.old }
         ensures written { plan.new ≡ (if is_ok result then shown_in (standing_of B.Reading.meaning self.now).published plan.old else plan.old) }
     {
         check_role(1, role)?;

@@ -25,16 +25,16 @@ impl<B: Book, K: Kind> Sheet<B, K> {
     // Writes the file of the grades at the start of a buffer and answers its length. After any page
     // that is the file of the grades that stand there.
     pub fn save(&self, role: u32, out: &mut [u8]) -> Result<usize, Refusal>
-        ensures answer { result ≡ save_answer role (file_of_sheet K.number B.Reading.meaning self.now) out.old }
-        ensures after { out.new ≡ save_after role (file_of_sheet K.number B.Reading.meaning self.now) out.old }
-        ensures standing { (o : Opened) (h : List Event) → Ran o h (opening_of B.limit K.number K.valid K.above B.Reading.meaning self.now) (standing_of B.Reading.meaning self.now) → file_of_sheet K.number B.Reading.meaning self.now ≡ file_at o h }
+        ensures answer { result ≡ save_answer role (file_of_sheet K.NUMBER B.Reading.meaning self.now) out.old }
+        ensures after { out.new ≡ save_after role (file_of_sheet K.NUMBER B.Reading.meaning self.now) out.old }
+        ensures standing { (o : Opened) (h : List Event) → Ran o h (opening_of B.LIMIT K.NUMBER K.valid K.above B.Reading.meaning self.now) (standing_of B.Reading.meaning self.now) → file_of_sheet K.NUMBER B.Reading.meaning self.now ≡ file_at o h }
     {
         self.write_grades(role, out)
     }
 
     fn write_grades(&self, role: u32, out: &mut [u8]) -> Result<usize, Refusal>
-        ensures answer { result ≡ save_answer role (file_of_sheet K.number B.Reading.meaning self.now) out.old }
-        ensures after { out.new ≡ save_after role (file_of_sheet K.number B.Reading.meaning self.now) out.old }
+        ensures answer { result ≡ save_answer role (file_of_sheet K.NUMBER B.Reading.meaning self.now) out.old }
+        ensures after { out.new ≡ save_after role (file_of_sheet K.NUMBER B.Reading.meaning self.now) out.old }
     {
         check_role(1, role)?;
         write_file::<K, B>(&self.book, out)
@@ -43,7 +43,7 @@ impl<B: Book, K: Kind> Sheet<B, K> {
     // Reads a file into a sheet without grades: the whole file is checked, then the limit, and only
     // then is the first record put.
     pub fn load(&mut self, role: u32, file: &[u8]) -> Result<(), Refusal>
-        ensures { (plan set : List ℕ) → RanLine B.limit K.number K.valid K.above B.Reading.meaning self.old self.new (asked role (Call.load file.now) plan set) (told_done result plan set) }
+        ensures { (plan set : List ℕ) → RanLine B.LIMIT K.NUMBER K.valid K.above B.Reading.meaning self.old self.new (asked role (Call.load file.now) plan set) (told_done result plan set) }
     {
         match self.may_load(role) {
             Ok(()) => self.load_now(file),
@@ -64,10 +64,10 @@ impl<B: Book, K: Kind> Sheet<B, K> {
 
     fn load_now(&mut self, file: &[u8]) -> Result<(), Refusal>
         requires { Empty (B.Reading.meaning self.old.book) }
-        ensures { LoadsNow (opening_of B.limit K.number K.valid K.above B.Reading.meaning self.old) (standing_of B.Reading.meaning self.old) file.now result (opening_of B.limit K.number K.valid K.above B.Reading.meaning self.new) (standing_of B.Reading.meaning self.new) }
+        ensures { LoadsNow (opening_of B.LIMIT K.NUMBER K.valid K.above B.Reading.meaning self.old) (standing_of B.Reading.meaning self.old) file.now result (opening_of B.LIMIT K.NUMBER K.valid K.above B.Reading.meaning self.new) (standing_of B.Reading.meaning self.new) }
     {
         let checked = check_file::<K>(file, self.sizes())?;
-        if checked.count() > B::grade_limit() {
+        if checked.count() > B::LIMIT {
             return Err(Refusal::Full);
         }
         put_file::<B, K>(&mut self.book, &checked);
@@ -93,9 +93,9 @@ impl<B: Book, K: Kind> Sheet<B, K> {
 fn put_file<B: Book, K: Kind>(book: &mut B, file: &CheckedFile<'_>)
     requires empty { Empty (B.Reading.meaning book.old) }
     requires count { file.now.count ≡ count_in file.now.file.now }
-    requires room { count_in file.now.file.now ≤ B.limit }
+    requires room { count_in file.now.file.now ≤ B.LIMIT }
     requires bytes { Bytes file.now.file.now }
-    requires right { Right (just K.number K.valid (B.Reading.meaning book.old).packages (B.Reading.meaning book.old).translators) file.now.file.now }
+    requires right { Right (just K.NUMBER K.valid (B.Reading.meaning book.old).packages (B.Reading.meaning book.old).translators) file.now.file.now }
     ensures { B.Reading.meaning book.new ≡ holding (B.Reading.meaning book.old) (grade_in file.now.file.now) }
 {
     put_records(file, book);

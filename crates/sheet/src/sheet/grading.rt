@@ -15,14 +15,14 @@ use refusals::Refusal;
 impl<B: Book, K: Kind> Sheet<B, K> {
     // Puts a valid code for a pair.
     pub fn grade(&mut self, role: u32, pkg: u32, translator: u32, code: u32) -> Result<(), Refusal>
-        ensures { (plan set : List ℕ) → RanLine B.limit K.number K.valid K.above B.Reading.meaning self.old self.new (asked role (Call.grade pkg translator code) plan set) (told_done result plan set) }
+        ensures { (plan set : List ℕ) → RanLine B.LIMIT K.NUMBER K.valid K.above B.Reading.meaning self.old self.new (asked role (Call.grade pkg translator code) plan set) (told_done result plan set) }
     {
         self.put_grade(role, pkg, translator, code)
     }
 
     // Takes the grade of a pair.
     pub fn strike(&mut self, role: u32, pkg: u32, translator: u32) -> Result<(), Refusal>
-        ensures { (plan set : List ℕ) → RanLine B.limit K.number K.valid K.above B.Reading.meaning self.old self.new (asked role (Call.strike pkg translator) plan set) (told_done result plan set) }
+        ensures { (plan set : List ℕ) → RanLine B.LIMIT K.NUMBER K.valid K.above B.Reading.meaning self.old self.new (asked role (Call.strike pkg translator) plan set) (told_done result plan set) }
     {
         self.take_grade(role, pkg, translator)
     }
@@ -38,8 +38,8 @@ impl<B: Book, K: Kind> Sheet<B, K> {
     }
 
     fn put_grade(&mut self, role: u32, pkg: u32, translator: u32, code: u32) -> Result<(), Refusal>
-        ensures answer { result ≡ grade_answer (opening_of B.limit K.number K.valid K.above B.Reading.meaning self.old) (standing_of B.Reading.meaning self.old) role pkg translator code }
-        ensures opened { opening_of B.limit K.number K.valid K.above B.Reading.meaning self.new ≡ opening_of B.limit K.number K.valid K.above B.Reading.meaning self.old }
+        ensures answer { result ≡ grade_answer (opening_of B.LIMIT K.NUMBER K.valid K.above B.Reading.meaning self.old) (standing_of B.Reading.meaning self.old) role pkg translator code }
+        ensures opened { opening_of B.LIMIT K.NUMBER K.valid K.above B.Reading.meaning self.new ≡ opening_of B.LIMIT K.NUMBER K.valid K.above B.Reading.meaning self.old }
         ensures after { standing_of B.Reading.meaning self.new ≡ (if is_ok result then with_grade_at (standing_of B.Reading.meaning self.old) pkg translator (Holds code) else standing_of B.Reading.meaning self.old) }
     {
         check_role(2, role)?;
@@ -54,8 +54,8 @@ impl<B: Book, K: Kind> Sheet<B, K> {
     }
 
     fn take_grade(&mut self, role: u32, pkg: u32, translator: u32) -> Result<(), Refusal>
-        ensures answer { result ≡ strike_answer (opening_of B.limit K.number K.valid K.above B.Reading.meaning self.old) (standing_of B.Reading.meaning self.old) role pkg translator }
-        ensures opened { opening_of B.limit K.number K.valid K.above B.Reading.meaning self.new ≡ opening_of B.limit K.number K.valid K.above B.Reading.meaning self.old }
+        ensures answer { result ≡ strike_answer (opening_of B.LIMIT K.NUMBER K.valid K.above B.Reading.meaning self.old) (standing_of B.Reading.meaning self.old) role pkg translator }
+        ensures opened { opening_of B.LIMIT K.NUMBER K.valid K.above B.Reading.meaning self.new ≡ opening_of B.LIMIT K.NUMBER K.valid K.above B.Reading.meaning self.old }
         ensures after { standing_of B.Reading.meaning self.new ≡ (if is_ok result then with_grade_at (standing_of B.Reading.meaning self.old) pkg translator Lacks else standing_of B.Reading.meaning self.old) }
     {
         check_role(3, role)?;

@@ -15,7 +15,7 @@ impl<B: Book, K: Kind> Sheet<B, K> {
     // Idle, without grades and without a published plan, if the book is passed as empty; else the
     // book is handed back.
     pub fn open(book: B, tag: u32) -> Result<Sheet<B, K>, (Refusal, B)>
-        ensures { MatchResult result (λ s. (s.book ≡ book) × Ran (opened_with B.limit K.number K.valid K.above (B.Reading.meaning book) tag) [] (opening_of B.limit K.number K.valid K.above B.Reading.meaning s) (standing_of B.Reading.meaning s)) (λ e. (e ≡ (NotEmpty, book)) × (Empty (B.Reading.meaning book) → ⊥)) }
+        ensures { MatchResult result (λ s. (s.book ≡ book) × Ran (opened_with B.LIMIT K.NUMBER K.valid K.above (B.Reading.meaning book) tag) [] (opening_of B.LIMIT K.NUMBER K.valid K.above B.Reading.meaning s) (standing_of B.Reading.meaning s)) (λ e. (e ≡ (NotEmpty, book)) × (Empty (B.Reading.meaning book) → ⊥)) }
     {
         match pass_as_empty(book) {
             Ok(passed) => Ok(Sheet {

@@ -17,21 +17,21 @@ use refusals::Refusal;
 impl<B: Book, K: Kind> Sheet<B, K> {
     // Spends the slip and records the drawn plan as the published one.
     pub fn publish(&mut self, role: u32, slip: Slip) -> Result<(), (Refusal, Slip)>
-        ensures { (plan set : List ℕ) → RanLine B.limit K.number K.valid K.above B.Reading.meaning self.old self.new (asked role (Call.publish slip.tag) plan set) (told_spent result plan set) }
+        ensures { (plan set : List ℕ) → RanLine B.LIMIT K.NUMBER K.valid K.above B.Reading.meaning self.old self.new (asked role (Call.publish slip.tag) plan set) (told_spent result plan set) }
     {
         self.record_plan(role, slip)
     }
 
     // Spends the slip and drops the drawn plan.
     pub fn withdraw(&mut self, role: u32, slip: Slip) -> Result<(), (Refusal, Slip)>
-        ensures { (plan set : List ℕ) → RanLine B.limit K.number K.valid K.above B.Reading.meaning self.old self.new (asked role (Call.withdraw slip.tag) plan set) (told_spent result plan set) }
+        ensures { (plan set : List ℕ) → RanLine B.LIMIT K.NUMBER K.valid K.above B.Reading.meaning self.old self.new (asked role (Call.withdraw slip.tag) plan set) (told_spent result plan set) }
     {
         self.drop_plan(role, slip)
     }
 
     fn record_plan(&mut self, role: u32, slip: Slip) -> Result<(), (Refusal, Slip)>
-        ensures answer { result ≡ or_back (spend_answer 3 (opening_of B.limit K.number K.valid K.above B.Reading.meaning self.old) (standing_of B.Reading.meaning self.old) role slip.tag) slip }
-        ensures opened { opening_of B.limit K.number K.valid K.above B.Reading.meaning self.new ≡ opening_of B.limit K.number K.valid K.above B.Reading.meaning self.old }
+        ensures answer { result ≡ or_back (spend_answer 3 (opening_of B.LIMIT K.NUMBER K.valid K.above B.Reading.meaning self.old) (standing_of B.Reading.meaning self.old) role slip.tag) slip }
+        ensures opened { opening_of B.LIMIT K.NUMBER K.valid K.above B.Reading.meaning self.new ≡ opening_of B.LIMIT K.NUMBER K.valid K.above B.Reading.meaning self.old }
         ensures after { standing_of B.Reading.meaning self.new ≡ (if is_ok result then with_plans (standing_of B.Reading.meaning self.old) Lacks (out_of self.old.state) else standing_of B.Reading.meaning self.old) }
     {
         if let Err(refusal) = check_role(3, role) {
@@ -49,8 +49,8 @@ impl<B: Book, K: Kind> Sheet<B, K> {
     }
 
     fn drop_plan(&mut self, role: u32, slip: Slip) -> Result<(), (Refusal, Slip)>
-        ensures answer { result ≡ or_back (spend_answer 2 (opening_of B.limit K.number K.valid K.above B.Reading.meaning self.old) (standing_of B.Reading.meaning self.old) role slip.tag) slip }
-        ensures opened { opening_of B.limit K.number K.valid K.above B.Reading.meaning self.new ≡ opening_of B.limit K.number K.valid K.above B.Reading.meaning self.old }
+        ensures answer { result ≡ or_back (spend_answer 2 (opening_of B.LIMIT K.NUMBER K.valid K.above B.Reading.meaning self.old) (standing_of B.Reading.meaning self.old) role slip.tag) slip }
+        ensures opened { opening_of B.LIMIT K.NUMBER K.valid K.above B.Reading.meaning self.new ≡ opening_of B.LIMIT K.NUMBER K.valid K.above B.Reading.meaning self.old }
         ensures after { standing_of B.Reading.meaning self.new ≡ (if is_ok result then with_plans (standing_of B.Reading.meaning self.old) Lacks (standing_of B.Reading.meaning self.old).published else standing_of B.Reading.meaning self.old) }
     {
         if let Err(refusal) = check_role(2, role) {

@@ -8,13 +8,9 @@ use refusals::Refusal;
 impl Book for TableBook {
     const LIMIT: u16 = 3072;
 
-    ghost limit = { 3072 };
+    ghost LIMIT = { 3072 };
 
     ghost limited = { Prim.search rules };
-
-    fn grade_limit() -> u16 {
-        Self::LIMIT
-    }
 
     fn put(&mut self, pkg: u32, translator: u32, code: u32) -> Result<(), Refusal> {
         if !self.sizes.holds(pkg, translator) {

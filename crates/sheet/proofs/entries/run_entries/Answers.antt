@@ -23,7 +23,7 @@ loop-e-preserved g c =
           ∙ run_push h es (event_in (get_or xs i d) y)
           ∙ ap (λ (z : Entry). event_in z y ∷ run_on h es) (sym item) in
           subst
-          (λ (z : List Event). Ran o z (opening_of g.B.Book.limit g.K.Kind.number g.K.Kind.valid g.K.Kind.above g.B.Reading.meaning c.run_entry.new.sheet)
+          (λ (z : List Event). Ran o z (opening_of g.B.Book.LIMIT g.K.Kind.NUMBER g.K.Kind.valid g.K.Kind.above g.B.Reading.meaning c.run_entry.new.sheet)
           (standing_of g.B.Reading.meaning c.run_entry.new.sheet))
           (sym grown) (c.run_entry.ensures o (run_on h es) (c.loop-e.invariant.0 o h r))),
       same_rest xs ys i y c.loop-e.invariant.1,
@@ -38,10 +38,10 @@ returns g c =
     let b : take i ys ≡ ys = take_all i ys (omega (arith, c.loop-e-test.false, c.loop-e.auto.page)) in
     λ o h r.
     subst
-    (λ (z : List Entry). Ran o (run_on h (events_in xs z)) (opening_of g.B.Book.limit g.K.Kind.number g.K.Kind.valid g.K.Kind.above g.B.Reading.meaning c.loop-e.sheet)
+    (λ (z : List Entry). Ran o (run_on h (events_in xs z)) (opening_of g.B.Book.LIMIT g.K.Kind.NUMBER g.K.Kind.valid g.K.Kind.above g.B.Reading.meaning c.loop-e.sheet)
     (standing_of g.B.Reading.meaning c.loop-e.sheet))
     b
     (subst
-    (λ (z : List Entry). Ran o (run_on h (events_in z (take i ys))) (opening_of g.B.Book.limit g.K.Kind.number g.K.Kind.valid g.K.Kind.above g.B.Reading.meaning c.loop-e.sheet)
+    (λ (z : List Entry). Ran o (run_on h (events_in z (take i ys))) (opening_of g.B.Book.LIMIT g.K.Kind.NUMBER g.K.Kind.valid g.K.Kind.above g.B.Reading.meaning c.loop-e.sheet)
     (standing_of g.B.Reading.meaning c.loop-e.sheet))
     a (c.loop-e.invariant.0 o h r))

@@ -9,9 +9,9 @@ use Rattle.std.proofs.Common.{◌≡◌, List, take, drop}
 abbrev pub invariant-loop-e : goal.invariant-loop-e
 invariant-loop-e g l =
     ((o : Opening) (h : List Event)
-    → Ran o h (opening_of g.B.Book.limit g.K.Kind.number g.K.Kind.valid g.K.Kind.above g.B.Reading.meaning l.initial.sheet)
+    → Ran o h (opening_of g.B.Book.LIMIT g.K.Kind.NUMBER g.K.Kind.valid g.K.Kind.above g.B.Reading.meaning l.initial.sheet)
     (standing_of g.B.Reading.meaning l.initial.sheet)
     → Ran o (run_on h (events_in (take l.e-index l.initial.page) (take l.e-index l.page)))
-    (opening_of g.B.Book.limit g.K.Kind.number g.K.Kind.valid g.K.Kind.above g.B.Reading.meaning l.sheet)
+    (opening_of g.B.Book.LIMIT g.K.Kind.NUMBER g.K.Kind.valid g.K.Kind.above g.B.Reading.meaning l.sheet)
     (standing_of g.B.Reading.meaning l.sheet))
     × (drop l.e-index l.page ≡ drop l.e-index l.initial.page)

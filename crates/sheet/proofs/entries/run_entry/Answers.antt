@@ -14,7 +14,7 @@ returns g c =
     let wide : length c.call-outcome.new.set ≡ e.set.len = search rules in
     λ o h r.
     subst
-    (λ (z : Event). Ran o (z ∷ h) (opening_of g.B.Book.limit g.K.Kind.number g.K.Kind.valid g.K.Kind.above g.B.Reading.meaning c.call-outcome.new.self)
+    (λ (z : Event). Ran o (z ∷ h) (opening_of g.B.Book.LIMIT g.K.Kind.NUMBER g.K.Kind.valid g.K.Kind.above g.B.Reading.meaning c.call-outcome.new.self)
     (standing_of g.B.Reading.meaning c.call-outcome.new.self))
     (same_event c.line_of-line.result e.ask (vec_items e.file) (vec_items e.plan) (vec_items e.set)
     c.call-outcome.new.plan c.call-outcome.new.set c.deref_mut.result.now c.deref_mut-2.result.now

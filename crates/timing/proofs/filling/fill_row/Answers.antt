@@ -8,7 +8,7 @@ loop-column-init g c = (c.requires.filled, refl, refl)
 
 pub loop-column-preserved : goal.loop-column-preserved
 loop-column-preserved g c =
-    let limit = g.B.Book.limit in
+    let limit = g.B.Book.LIMIT in
     let m = g.B.Reading.meaning c.loop-column.book in
     let m' = g.B.Reading.meaning c.put_code.new.book in
     let k = c.args.row in
@@ -32,12 +32,12 @@ returns g c =
     record {
       packages = c.loop-column.invariant.1;
       translators = c.loop-column.invariant.2;
-      answer = subst (λ n. Partly g.B.Book.limit c.args.codes.now c.args.row n m) e c.loop-column.invariant.0;
+      answer = subst (λ n. Partly g.B.Book.LIMIT c.args.codes.now c.args.row n m) e c.loop-column.invariant.0;
     }
 
 pub returns-in_err-put_code : goal.returns-in_err-put_code
 returns-in_err-put_code g c =
-    let limit = g.B.Book.limit in
+    let limit = g.B.Book.LIMIT in
     let m = g.B.Reading.meaning c.loop-column.book in
     let m' = g.B.Reading.meaning c.put_code.new.book in
     let k = c.args.row in

@@ -4,6 +4,6 @@ use Rattle.std.proofs.Common.{◌≡◌}
 
 abbrev pub invariant-loop-column : goal.invariant-loop-column
 invariant-loop-column g l =
-    Partly g.B.Book.limit l.codes l.row l.column (g.B.Reading.meaning l.book)
+    Partly g.B.Book.LIMIT l.codes l.row l.column (g.B.Reading.meaning l.book)
     × ((g.B.Reading.meaning l.book).packages ≡ (g.B.Reading.meaning l.initial.book).packages)
     × ((g.B.Reading.meaning l.book).translators ≡ (g.B.Reading.meaning l.initial.book).translators)

@@ -11,7 +11,7 @@ returns g c =
     record {
       told = search rules;
       accepted =
-          right_is_the_file g.K.Kind.number g.K.Kind.valid c.args.sizes.packages c.args.sizes.translators
+          right_is_the_file g.K.Kind.NUMBER g.K.Kind.valid c.args.sizes.packages c.args.sizes.translators
           c.args.file.now c.args.sizes.within (λ k. (c.type_inv.file k).fits) h.1;
       once = right_or_one_fault;
       same = same_grades_same_bytes;
@@ -25,7 +25,7 @@ returns-in_err-count g c =
       told = rw (p.1, p.2) h;
       accepted =
           rw p.1
-          (not_a_file g.K.Kind.number g.K.Kind.valid c.args.sizes.packages c.args.sizes.translators
+          (not_a_file g.K.Kind.NUMBER g.K.Kind.valid c.args.sizes.packages c.args.sizes.translators
           c.args.file.now c.in_err-count.field-0.0 h);
       once = right_or_one_fault;
       same = same_grades_same_bytes;

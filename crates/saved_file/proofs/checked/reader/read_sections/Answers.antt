@@ -6,7 +6,7 @@ use Rattle.std.proofs.Common.{◌∙◌}
 
 pub returns-in_err-at_the_end : goal.returns-in_err-at_the_end
 returns-in_err-at_the_end g c =
-    let e = just g.K.Kind.number g.K.Kind.valid c.args.sizes.packages c.args.sizes.translators in
+    let e = just g.K.Kind.NUMBER g.K.Kind.valid c.args.sizes.packages c.args.sizes.translators in
     let a = c.in_ok-first_section.ensures.told in
     let b = c.in_ok-count.ensures.told in
     let w =

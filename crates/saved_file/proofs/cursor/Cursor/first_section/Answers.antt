@@ -11,14 +11,14 @@ returns-in_err-first_count g c =
       told =
           rw (p.1, p.2)
           (in_first_count
-          (just g.K.Kind.number g.K.Kind.valid c.args.sizes.packages c.args.sizes.translators)
+          (just g.K.Kind.NUMBER g.K.Kind.valid c.args.sizes.packages c.args.sizes.translators)
           c.args.self.now.file.now c.in_err-first_count.field-0.0 c.in_err-first_count.ensures.value);
       file = search rules;
     }
 
 pub returns-in_err-sheet_record_of : goal.returns-in_err-sheet_record_of
 returns-in_err-sheet_record_of g c =
-    let e = just g.K.Kind.number g.K.Kind.valid c.args.sizes.packages c.args.sizes.translators in
+    let e = just g.K.Kind.NUMBER g.K.Kind.valid c.args.sizes.packages c.args.sizes.translators in
     let p =
     err_from_is_err_and c.from_residual-in_err-sheet_record_of.result c.from_residual-in_err-sheet_record_of.ensures.1 in
     record {
@@ -33,7 +33,7 @@ returns-in_err-sheet_record_of g c =
 
 pub returns : goal.returns
 returns g c =
-    let e = just g.K.Kind.number g.K.Kind.valid c.args.sizes.packages c.args.sizes.translators in
+    let e = just g.K.Kind.NUMBER g.K.Kind.valid c.args.sizes.packages c.args.sizes.translators in
     record {
       told = (
         search rules,

@@ -13,7 +13,7 @@ returns-in_err-next_grade_record g c =
       told =
           rw (p.1, p.2)
           (in_grade_record
-          (just g.K.Kind.number g.K.Kind.valid c.args.sizes.packages c.args.sizes.translators)
+          (just g.K.Kind.NUMBER g.K.Kind.valid c.args.sizes.packages c.args.sizes.translators)
           c.args.self.now.file.now c.loop-done.self.file.now c.loop-done.done c.loop-done.self.at
           c.loop-done.before c.loop-done.invariant.0 c.loop-done.invariant.1 c.loop-done.invariant.2 c.requires.first
           c.requires.sheet c.requires.second c.loop-done.invariant.3 k c.in_err-next_grade_record.field-0.0
@@ -23,7 +23,7 @@ returns-in_err-next_grade_record g c =
 
 pub loop-done-preserved : goal.loop-done-preserved
 loop-done-preserved g c =
-    let e = just g.K.Kind.number g.K.Kind.valid c.args.sizes.packages c.args.sizes.translators in
+    let e = just g.K.Kind.NUMBER g.K.Kind.valid c.args.sizes.packages c.args.sizes.translators in
     let w =
     right_grade_record e c.args.self.now.file.now c.loop-done.self.file.now c.loop-done.done
     c.loop-done.self.at c.loop-done.before c.loop-done.invariant.0 c.loop-done.invariant.1

@@ -11,7 +11,7 @@ returns-in_err-count g c =
       told =
           rw (p.1, p.2)
           (in_second_count
-          (just g.K.Kind.number g.K.Kind.valid c.args.sizes.packages c.args.sizes.translators)
+          (just g.K.Kind.NUMBER g.K.Kind.valid c.args.sizes.packages c.args.sizes.translators)
           c.args.self.now.file.now c.requires.first c.requires.sheet c.in_err-count.field-0.0
           c.in_err-count.ensures.value);
       file = search rules;

@@ -10,7 +10,7 @@ use Rattle.sheet.specs.Sheets.{opening_of, standing_of}
 
 pub returns : goal.returns
 returns g c =
-    let q = opening_of g.B.Book.limit g.K.Kind.number g.K.Kind.valid g.K.Kind.above g.B.Reading.meaning c.args.self.now in
+    let q = opening_of g.B.Book.LIMIT g.K.Kind.NUMBER g.K.Kind.valid g.K.Kind.above g.B.Reading.meaning c.args.self.now in
     let s = standing_of g.B.Reading.meaning c.args.self.now in
     record {
       ran = λ o h r. ran_more o q h s _ _ _ _ r (c.answer_to.ensures (ran_fits o h q s r));

@@ -10,6 +10,6 @@ returns g c =
       standing =
           λ o h r.
           file_stands o h
-          (opening_of g.B.Book.limit g.K.Kind.number g.K.Kind.valid g.K.Kind.above g.B.Reading.meaning c.args.self.now)
+          (opening_of g.B.Book.LIMIT g.K.Kind.NUMBER g.K.Kind.valid g.K.Kind.above g.B.Reading.meaning c.args.self.now)
           (standing_of g.B.Reading.meaning c.args.self.now) r;
     }

@@ -9,7 +9,7 @@ returns g c =
       written = c.show_plan.ensures.written;
       ran =
           λ fits set.
-          show_runs (opening_of g.B.Book.limit g.K.Kind.number g.K.Kind.valid g.K.Kind.above g.B.Reading.meaning c.args.self.now)
+          show_runs (opening_of g.B.Book.LIMIT g.K.Kind.NUMBER g.K.Kind.valid g.K.Kind.above g.B.Reading.meaning c.args.self.now)
           (standing_of g.B.Reading.meaning c.args.self.now) c.args.role c.args.plan.now set fits c.show_plan.result
           c.show_plan.new.plan c.show_plan.ensures.answer c.show_plan.ensures.written;
     }
