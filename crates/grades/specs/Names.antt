@@ -11,9 +11,9 @@ kind_number Ratings = 2
 abbrev pub known_kind : ℕ → Bool
 known_kind k = k == 1 || k == 2
 
-abbrev pub kind_word : KindName → List ℕ
-kind_word Points = codes "points"
-kind_word Ratings = codes "ratings"
+abbrev pub kind_text : KindName → List ℕ
+kind_text Points = codes "points"
+kind_text Ratings = codes "ratings"
 
 -- the kind with a number, or an error that tells a number that no kind has
 abbrev pub Names : ℕ → Result KindName UnknownKind → Type 0

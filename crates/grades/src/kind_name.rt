@@ -1,5 +1,5 @@
 // The kinds that there are, as a value.
-ghost use Rattle.grades.specs.Names.{Names, kind_number, kind_word};
+ghost use Rattle.grades.specs.Names.{Names, kind_number, kind_text};
 ghost use Rattle.std.specs.Prelude.{◌≡◌, ◌++◌, Some, codes, decimal};
 
 use super::{Kind, Points, Ratings};
@@ -42,7 +42,7 @@ impl From<KindName> for u8 {
 }
 
 impl fmt::Display for KindName {
-    ghost output = { λ kind. Some (kind_word kind) };
+    ghost output = { λ kind. Some (kind_text kind) };
 
     fn fmt<W: fmt::Write>(&self, f: &mut fmt::Formatter<W>) -> fmt::Result {
         f.write_str(match self {
