@@ -1,6 +1,6 @@
 -- Lines added one after the other.
 use Rattle.std.proofs.Common.{◌≡◌, ℕ, zero, suc, ◌+◌, ◌<◌, Bool, cond, List, [], ◌∷◌, ◌++◌, get_or, codes, decimal, Option, sym, refl, ap, ◌∙◌, append_assoc, append-nil, add-one, arith}
-use Rattle.file_text.specs.Texts.{sheet_line}
+use Rattle.file_format.specs.Words.{sheet_line}
 use Rattle.plan_report.specs.Texts.{pair_line, table, members, head_line}
 
 pub two_parts : (start a b first second : List ℕ) → first ≡ start ++ a → second ≡ first ++ b → second ≡ start ++ (a ++ b)

@@ -1,7 +1,8 @@
 -- The text of a report on a saved file, line by line. Every line is ended by byte 0A.
 use Rattle.std.specs.Prelude.{ℕ, zero, suc, ◌/◌, ◌%◌, Bool, cond, List, [], ◌∷◌, ◌++◌, Some, None, codes, decimal, Option, ◌==◌, slice_index}
 use Rattle.books.specs.Meaning.{standing}
-use Rattle.file_text.specs.Texts.{fault_line, sheet_line}
+use Rattle.file_format.specs.Words.{sheet_line}
+use Rattle.refusals.specs.Words.{fault_line}
 use Rattle.refusals.specs.declared.fault.Fault.{Fault}
 
 abbrev pub ended : List ℕ → List ℕ

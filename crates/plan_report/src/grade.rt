@@ -1,9 +1,9 @@
 // A grade as a manager reads it.
+ghost use Rattle.grades.specs.Names.{kind_number};
 ghost use Rattle.plan_report.specs.Texts.{grade_words, told_grade};
-ghost use Rattle.saved_file.specs.ByItself.{kind_number};
 ghost use Rattle.std.specs.Prelude.{Some};
 
-use saved_file::KindName;
+use grades::KindName;
 use std::fmt;
 
 #[derive(Clone, Copy)]
@@ -18,8 +18,8 @@ impl fmt::Display for Grade {
     fn fmt<W: fmt::Write>(&self, f: &mut fmt::Formatter<W>) -> fmt::Result {
         let code = self.code;
         match self.kind {
-            KindName::OfPoints => write!(f, "{code}"),
-            KindName::OfRatings => {
+            KindName::Points => write!(f, "{code}"),
+            KindName::Ratings => {
                 let class = code % 256;
                 let days = code / 256;
                 write!(f, "class {class}, {days} days (code {code})")

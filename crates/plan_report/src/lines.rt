@@ -2,13 +2,13 @@
 ghost use Rattle.std.specs.Prelude.{◌≡◌, ◌+◌, ◌<◌, ◌≤◌, [], ◌++◌, length, if◌then◌else◌, string_bytes, codes, decimal, OnOk, ◌==◌};
 ghost use Rattle.matching.specs.Answers.{member};
 ghost use Rattle.plan_report.specs.Texts.{members, pair_line, set_line, table, tight_words, short_words, lowest_line, no_plan_line};
-ghost use Rattle.saved_file.specs.ByItself.{kind_number};
+ghost use Rattle.grades.specs.Names.{kind_number};
 ghost use Rattle.table_book.specs.Table.{table_meaning};
 
 use super::grade::{Grade, ToldGrade};
 use books::Reading;
-use saved_file::KindName;
-use std::fmt;
+use grades::KindName;
+use std::alloc::AllocError;
 use table_book::TableBook;
 
 // A package of a plan with its translator, and the grade of the two.
@@ -32,7 +32,7 @@ fn pair_at(grades: &TableBook, place: usize, translator: u16) -> Pair
     }
 }
 
-fn write_pair(out: &mut String, kind: KindName, lowest: u32, pair: Pair) -> fmt::Result
+fn write_pair(out: &mut String, kind: KindName, lowest: u32, pair: Pair) -> Result<(), AllocError>
     ensures { OnOk result (string_bytes out.new ≡ string_bytes out.old ++ pair_line (kind_number kind) lowest pair.pkg pair.translator pair.grade) }
 {
     let pkg = pair.pkg;
@@ -53,7 +53,7 @@ fn write_table(
     lowest: u32,
     grades: &TableBook,
     plan: &[u16],
-) -> fmt::Result
+) -> Result<(), AllocError>
     requires { length plan.now ≤ 48 }
     ensures { OnOk result (string_bytes out.new ≡ string_bytes out.old ++ table (kind_number kind) lowest (table_meaning grades.now).grade plan.now (length plan.now)) }
 {
@@ -64,7 +64,7 @@ fn write_table(
 }
 
 // The number of a package, where its mark says that it is a member.
-fn write_member(out: &mut String, pkg: usize, mark: u8) -> fmt::Result
+fn write_member(out: &mut String, pkg: usize, mark: u8) -> Result<(), AllocError>
     ensures { OnOk result (string_bytes out.new ≡ string_bytes out.old ++ (if mark == 1 then codes " " ++ decimal pkg else [])) }
 {
     if mark == 1 {
@@ -74,7 +74,7 @@ fn write_member(out: &mut String, pkg: usize, mark: u8) -> fmt::Result
 }
 
 // The numbers of the members of a set.
-fn write_members(out: &mut String, set: &[u8]) -> fmt::Result
+fn write_members(out: &mut String, set: &[u8]) -> Result<(), AllocError>
     ensures { OnOk result (string_bytes out.new ≡ string_bytes out.old ++ members (member set.now) (length set.now)) }
 {
     for (place, mark) in set.iter().enumerate() {
@@ -84,7 +84,7 @@ fn write_members(out: &mut String, set: &[u8]) -> fmt::Result
 }
 
 // A line that names the members of a set.
-fn write_set(out: &mut String, words: &str, set: &[u8]) -> fmt::Result
+fn write_set(out: &mut String, words: &str, set: &[u8]) -> Result<(), AllocError>
     ensures { OnOk result (string_bytes out.new ≡ string_bytes out.old ++ set_line words.now (member set.now) (length set.now)) }
 {
     write!(out, "{words}")?;
@@ -101,7 +101,7 @@ pub(crate) fn write_plan(
     grades: &TableBook,
     plan: &[u16],
     set: &[u8],
-) -> fmt::Result
+) -> Result<(), AllocError>
     requires { length plan.now ≤ 48 }
     ensures { OnOk result (string_bytes out.new ≡ string_bytes out.old ++ (table (kind_number kind) lowest (table_meaning grades.now).grade plan.now (length plan.now) ++ (lowest_line (kind_number kind) lowest ++ set_line tight_words (member set.now) (length set.now)))) }
 {
@@ -113,7 +113,7 @@ pub(crate) fn write_plan(
 }
 
 // What is told where there is no full plan, with a short set.
-pub(crate) fn write_short(out: &mut String, set: &[u8]) -> fmt::Result
+pub(crate) fn write_short(out: &mut String, set: &[u8]) -> Result<(), AllocError>
     ensures { OnOk result (string_bytes out.new ≡ string_bytes out.old ++ (no_plan_line ++ set_line short_words (member set.now) (length set.now))) }
 {
     writeln!(out, "no full plan")?;

@@ -3,7 +3,7 @@ use Rattle.matching.specs.Answers.{member}
 use Rattle.plan_report.proofs.Growing.{two_parts}
 use Rattle.plan_report.proofs.lines.write_plan.Goals as goal
 use Rattle.plan_report.specs.Texts.{lowest_line, set_line, table, tight_words}
-use Rattle.saved_file.specs.ByItself.{kind_number}
+use Rattle.grades.specs.Names.{kind_number}
 use Rattle.table_book.specs.Table.{table_meaning}
 
 pub returns : goal.returns

@@ -3,7 +3,7 @@ use Rattle.plan_report.proofs.Growing.{table_none, table_more}
 use Rattle.plan_report.proofs.lines.write_table.Goals as goal
 use Rattle.plan_report.specs.Texts.{pair_line}
 use Rattle.plan_report.specs.declared.lines.Pair.{Pair}
-use Rattle.saved_file.specs.ByItself.{kind_number}
+use Rattle.grades.specs.Names.{kind_number}
 use Rattle.table_book.specs.Table.{table_meaning}
 
 pub loop-place-init : goal.loop-place-init

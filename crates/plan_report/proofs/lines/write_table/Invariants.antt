@@ -1,6 +1,6 @@
 use Rattle.plan_report.proofs.lines.write_table.Given as goal
 use Rattle.plan_report.specs.Texts.{table}
-use Rattle.saved_file.specs.ByItself.{kind_number}
+use Rattle.grades.specs.Names.{kind_number}
 use Rattle.std.proofs.Common.{◌≡◌, ◌++◌, string_bytes}
 use Rattle.table_book.specs.Table.{table_meaning}
 
