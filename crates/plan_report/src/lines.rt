@@ -5,9 +5,8 @@ ghost use Rattle.plan_report.specs.Texts.{members, pair_line, set_line, table, t
 ghost use Rattle.grades.specs.Names.{kind_number};
 ghost use Rattle.table_book.specs.Table.{table_meaning};
 
-use super::grade::{Grade, ToldGrade};
+use super::grade::{Grade, Scale, ToldGrade};
 use books::Reading;
-use grades::KindName;
 use std::alloc::AllocError;
 use table_book::TableBook;
 
@@ -32,16 +31,15 @@ fn pair_at(grades: &TableBook, place: usize, translator: u16) -> Pair
     }
 }
 
-fn write_pair(out: &mut String, kind: KindName, lowest: u32, pair: Pair) -> Result<(), AllocError>
-    ensures { OnOk result (string_bytes out.new ≡ string_bytes out.old ++ pair_line (kind_number kind) lowest pair.pkg pair.translator pair.grade) }
+fn write_pair(out: &mut String, scale: Scale, pair: Pair) -> Result<(), AllocError>
+    ensures { OnOk result (string_bytes out.new ≡ string_bytes out.old ++ pair_line (kind_number scale.kind) scale.lowest pair.pkg pair.translator pair.grade) }
 {
-    let pkg = pair.pkg;
-    let translator = pair.translator;
-    let grade = ToldGrade {
-        kind,
-        lowest,
-        grade: pair.grade,
-    };
+    let Pair {
+        pkg,
+        translator,
+        grade,
+    } = pair;
+    let grade = ToldGrade { scale, grade };
     writeln!(out, "package {pkg}: translator {translator}, {grade}")?;
     Ok(())
 }
@@ -49,16 +47,15 @@ fn write_pair(out: &mut String, kind: KindName, lowest: u32, pair: Pair) -> Resu
 // The pairs of a plan, by the grades of a book.
 fn write_table(
     out: &mut String,
-    kind: KindName,
-    lowest: u32,
+    scale: Scale,
     grades: &TableBook,
     plan: &[u16],
 ) -> Result<(), AllocError>
     requires { length plan.now ≤ 48 }
-    ensures { OnOk result (string_bytes out.new ≡ string_bytes out.old ++ table (kind_number kind) lowest (table_meaning grades.now).grade plan.now (length plan.now)) }
+    ensures { OnOk result (string_bytes out.new ≡ string_bytes out.old ++ table (kind_number scale.kind) scale.lowest (table_meaning grades.now).grade plan.now (length plan.now)) }
 {
     for (place, translator) in plan.iter().enumerate() {
-        write_pair(out, kind, lowest, pair_at(grades, place, *translator))?;
+        write_pair(out, scale, pair_at(grades, place, *translator))?;
     }
     Ok(())
 }
@@ -96,18 +93,20 @@ fn write_set(out: &mut String, words: &str, set: &[u8]) -> Result<(), AllocError
 // The table of a plan, its lowest grade, and a tight set.
 pub(crate) fn write_plan(
     out: &mut String,
-    kind: KindName,
-    lowest: u32,
+    scale: Scale,
     grades: &TableBook,
     plan: &[u16],
     set: &[u8],
 ) -> Result<(), AllocError>
     requires { length plan.now ≤ 48 }
-    ensures { OnOk result (string_bytes out.new ≡ string_bytes out.old ++ (table (kind_number kind) lowest (table_meaning grades.now).grade plan.now (length plan.now) ++ (lowest_line (kind_number kind) lowest ++ set_line tight_words (member set.now) (length set.now)))) }
+    ensures { OnOk result (string_bytes out.new ≡ string_bytes out.old ++ (table (kind_number scale.kind) scale.lowest (table_meaning grades.now).grade plan.now (length plan.now) ++ (lowest_line (kind_number scale.kind) scale.lowest ++ set_line tight_words (member set.now) (length set.now)))) }
 {
-    write_table(out, kind, lowest, grades, plan)?;
-    let words = Grade { kind, code: lowest };
-    writeln!(out, "lowest grade: {words}")?;
+    write_table(out, scale, grades, plan)?;
+    let lowest = Grade {
+        kind: scale.kind,
+        code: scale.lowest,
+    };
+    writeln!(out, "lowest grade: {lowest}")?;
     write_set(out, "packages to work on:", set)?;
     Ok(())
 }

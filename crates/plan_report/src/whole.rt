@@ -12,6 +12,7 @@ ghost use Rattle.std.specs.Prelude.{◌≡◌, IfOk, string_bytes, OnOk};
 ghost use Rattle.table_book.specs.Table.{table_meaning};
 
 use super::firsts::{fault_line, head_line};
+use super::grade::Scale;
 use super::lines::{write_plan, write_short};
 use super::office::draw_by_head;
 use books::Reading;
@@ -50,8 +51,10 @@ fn tell_draw(
         Some(lowest) => {
             write_plan(
                 out,
-                head.kind,
-                lowest,
+                Scale {
+                    kind: head.kind,
+                    lowest,
+                },
                 grades,
                 &plan[0..packages],
                 &set[0..packages],

@@ -8,8 +8,8 @@ use Rattle.table_book.specs.Table.{table_meaning}
 
 pub returns : goal.returns
 returns c =
-    let rows = table (kind_number c.args.kind) c.args.lowest (table_meaning c.args.grades.now).grade c.args.plan.now (length c.args.plan.now) in
-    let lowest = lowest_line (kind_number c.args.kind) c.args.lowest in
+    let rows = table (kind_number c.args.scale.kind) c.args.scale.lowest (table_meaning c.args.grades.now).grade c.args.plan.now (length c.args.plan.now) in
+    let lowest = lowest_line (kind_number c.args.scale.kind) c.args.scale.lowest in
     let named = set_line tight_words (member c.args.set.now) (length c.args.set.now) in
     let start = string_bytes c.args.out.now in
     two_parts start (rows ++ lowest) named (string_bytes c.writeln.new.self) (string_bytes c.write_set.new.out)

@@ -7,4 +7,4 @@ use Rattle.table_book.specs.Table.{table_meaning}
 abbrev pub invariant-loop-place : goal.invariant-loop-place
 invariant-loop-place l =
     string_bytes l.out
-    ≡ string_bytes l.initial.out ++ table (kind_number l.kind) l.lowest (table_meaning l.grades).grade l.plan l.place
+    ≡ string_bytes l.initial.out ++ table (kind_number l.scale.kind) l.scale.lowest (table_meaning l.grades).grade l.plan l.place
