@@ -1,5 +1,5 @@
 -- Each record of a right file is taken, and after the last the grades of the file stand.
-use Rattle.std.proofs.Common.{◌≡◌, ℕ, zero, suc, ◌+◌, ◌<◌, ◌≤◌, Bool, false, cond, not, if◌then◌else◌, ◌&&◌, ◌==◌, nat_le, ◌-◌, List, length, is_some, Ok, sym, refl, ap, ◌∙◌, add-one, subst, arith}
+use Rattle.std.proofs.Common.{◌≡◌, ℕ, zero, suc, ◌+◌, ◌≤◌, Bool, false, not, if◌then◌else◌, ◌&&◌, ◌==◌, nat_le, ◌-◌, List, length, is_some, Ok, sym, refl, ap, ◌∙◌, add-one, subst, arith}
 use Rattle.books.proofs.Outcomes.{put_accepted, put_makes}
 use Rattle.books.specs.Changes.{put_after, put_answer}
 use Rattle.books.specs.Meaning.{Empty, Meaning, count}
