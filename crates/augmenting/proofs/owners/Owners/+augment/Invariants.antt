@@ -1,5 +1,5 @@
 use Rattle.augmenting.proofs.Passing.{unseen}
-use Rattle.augmenting.proofs.paths.+augment.Given as goal
+use Rattle.augmenting.proofs.owners.Owners.+augment.Given as goal
 use Rattle.augmenting.specs.Owners.{Closed, Needed, Tried}
 use Rattle.std.proofs.Common.{◌≡◌}
 
@@ -8,7 +8,7 @@ decreases-augment g l = unseen l.visited.now
 
 abbrev pub invariant-loop-j : goal.invariant-loop-j
 invariant-loop-j g l =
-    (l.owner ≡ l.initial.owner)
-    × Closed (g.P.Pattern.joins l.pattern) (g.P.Pattern.translators l.pattern) l.owner l.initial.visited l.visited
+    (l.self.places ≡ l.initial.self.places)
+    × Closed (g.P.Pattern.joins l.pattern) (g.P.Pattern.translators l.pattern) l.self.places l.initial.visited l.visited
     × Tried (g.P.Pattern.joins l.pattern) l.pkg l.visited l.j
-    × Needed (g.P.Pattern.joins l.pattern) (g.P.Pattern.translators l.pattern) l.pkg l.initial.owner l.initial.visited l.visited
+    × Needed (g.P.Pattern.joins l.pattern) (g.P.Pattern.translators l.pattern) l.pkg l.initial.self.places l.initial.visited l.visited

@@ -1,5 +1,5 @@
 use Rattle.augmenting.proofs.Arrays.{all_alike}
-use Rattle.augmenting.proofs.members.nobody.Goals as goal
+use Rattle.augmenting.proofs.members.Members.none.Goals as goal
 use Rattle.std.proofs.Common.{false}
 
 pub returns : goal.returns
