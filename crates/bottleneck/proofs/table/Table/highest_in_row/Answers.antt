@@ -1,20 +1,20 @@
 use Rattle.std.proofs.Common.{ℕ, ◌+◌, Option, sym, ap, ◌∙◌, subst, inl, arith}
 use Rattle.bottleneck.proofs.Tops.{row_more, row_over}
-use Rattle.bottleneck.proofs.leads.highest_in_row.Goals as goal
-use Rattle.bottleneck.proofs.leads.highest_in_row.Goals.{then-not-visited-j, else-not-visited-j}
+use Rattle.bottleneck.proofs.table.Table.highest_in_row.Goals as goal
+use Rattle.bottleneck.proofs.table.Table.highest_in_row.Goals.{then-not-visited-j, else-not-visited-j}
 use Rattle.bottleneck.specs.Codes.{grade_of_code, table_grades}
 use Rattle.bottleneck.specs.Floors.{HighestInRow}
 use Rattle.std.proofs.lemmas.Bool.{both_ways}
 
 pub loop-j-init : goal.loop-j-init
 loop-j-init g c =
-    (record { right = c.requires.right; kept = λ code v e. e; row = λ j code l s e. absurd (omega arith) }, λ code e. inl e)
+    (record { right = c.requires; kept = λ code v e. e; row = λ j code l s e. absurd (omega arith) }, λ code e. inl e)
 
 pub loop-j-preserved : goal.loop-j-preserved
 loop-j-preserved g c =
     let valid = g.K.Kind.valid in
     let above = g.K.Kind.above in
-    let G = table_grades c.args.table.now.codes in
+    let G = table_grades c.args.self.now.codes in
     let k = c.args.pkg in
     let j = c.loop-j.j in
     let w = c.args.visited.now in
@@ -22,7 +22,7 @@ loop-j-preserved g c =
     let best = c.loop-j.best in
     elim c.if-not-visited-j.branch [
       | then-not-visited-j y ↦
-          row_more valid above g.met.K.Kind.order G c.requires.valid c.args.table.now.translators k j w before best y.code.result
+          row_more valid above g.met.K.Kind.order G c.args.self.now.valid c.args.self.now.translators k j w before best y.code.result
           c.loop-j-test.true y.if-not-visited-j.true (ap grade_of_code (sym y.code.ensures)) c.loop-j.invariant.0 c.loop-j.invariant.1
           c.if-not-visited-j.best (y.best-is ∙ y.higher_of-best.ensures)
       | else-not-visited-j y ↦ (
