@@ -30,13 +30,11 @@ impl Plan {
         ensures answer { result ≡ room_for (numbers_of self.now) out.old }
         ensures after { out.new ≡ written (numbers_of self.now) out.old }
     {
-        let packages = self.packages as usize;
+        let packages = self.len();
         if out.len() < packages {
             return Err(Refusal::Space);
         }
-        for k in 0..packages {
-            out[k] = self.numbers[k];
-        }
+        out[..packages].copy_from_slice(&self.numbers[..packages]);
         Ok(())
     }
 }
