@@ -36,13 +36,10 @@ impl Members {
     }
 
     // Whether the package of that place is a member.
-    pub fn has(&self, place: u8) -> bool
+    pub fn has(&self, place: usize) -> bool
         ensures { result ≡ seen self.now.places place }
     {
-        self.places
-            .get(usize::from(place))
-            .copied()
-            .unwrap_or(false)
+        self.places.get(place).copied().unwrap_or(false)
     }
 
     // Takes in a package by its number.

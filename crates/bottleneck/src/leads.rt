@@ -39,7 +39,7 @@ impl<K: Kind> Table<K> {
     {
         let mut best = None;
         for k in 0..self.packages {
-            if set.has(k) {
+            if set.has(k as usize) {
                 best = self.highest_in_row(k + 1, visited, best);
             }
         }

@@ -23,8 +23,8 @@ fn write_members(set: &Members, packages: u8, out: &mut [u8])
     ensures first { (k : ℕ) → k < packages → slice_index out.new k ≡ (if seen set.now.places k then 1 else 0) }
     ensures rest { (k : ℕ) → packages ≤ k → slice_index out.new k ≡ slice_index out.old k }
 {
-    for k in 0..packages {
-        out[usize::from(k)] = u8::from(set.has(k));
+    for (k, mark) in out[..usize::from(packages)].iter_mut().enumerate() {
+        *mark = u8::from(set.has(k));
     }
 }
 

@@ -1,4 +1,4 @@
-use Rattle.std.proofs.Common.{ℕ, ◌+◌, ◌-◌, ◌<◌, ◌≡◌, ◌≤◌, List, length, get_or, set, sym, refl, ap, ◌∙◌, subst, arith}
+use Rattle.std.proofs.Common.{ℕ, ◌+◌, ◌-◌, ◌≡◌, ◌≤◌, List, length, get_or, set, sym, refl, ap, ◌∙◌, subst, arith}
 use Rattle.matching.proofs.Numbers.{Noted, never_twice, noted_all, noted_more, noted_over, numbered}
 use Rattle.matching.proofs.plan.Plan.of_owners.Goals as goal
 use Rattle.matching.proofs.plan.Plan.of_owners.Goals.{then-owner-gt0, else-owner-gt0}
