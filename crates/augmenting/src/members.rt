@@ -27,8 +27,8 @@ impl Members {
     {
         let mut set = Members::none();
         set.include(pkg);
-        for (j, owner) in owners.places().iter().enumerate() {
-            if visited[j] {
+        for (owner, is_marked) in owners.places().iter().zip(visited) {
+            if *is_marked {
                 set.include(*owner);
             }
         }

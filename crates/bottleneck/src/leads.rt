@@ -1,5 +1,5 @@
 // The highest grade that leads out of a set of packages, past the translators that are marked.
-ghost use Rattle.std.specs.Prelude.{◌≡◌, ℕ, ◌+◌, ◌<◌, false, not, ◌&&◌, ◌⊎◌, if◌then◌else◌, Some, ◌==◌};
+ghost use Rattle.std.specs.Prelude.{◌≡◌, ℕ, ◌+◌, ◌<◌, ◌≤◌, false, not, ◌&&◌, ◌⊎◌, if◌then◌else◌, Some, ◌==◌};
 ghost use Rattle.augmenting.specs.Owners.{seen};
 ghost use Rattle.bottleneck.specs.Codes.{table_grades};
 ghost use Rattle.bottleneck.specs.Floors.{Highest, HighestInRow, Valid, higher};
@@ -21,14 +21,15 @@ fn higher_of<K: Kind>(code: u32, best: Option<u32>) -> Option<u32>
 
 impl<K: Kind> Table<K> {
     fn highest_in_row(&self, pkg: u8, visited: &[bool; 64], before: Option<u32>) -> Option<u32>
-        requires { Valid K.valid before }
+        requires few { pkg ≤ 48 }
+        requires right { Valid K.valid before }
         ensures best { HighestInRow K.valid K.above (table_grades self.now.codes) self.now.translators pkg visited.now before result }
         ensures from { (code : ℕ) → result ≡ Some code → (before ≡ Some code) ⊎ ((j : ℕ) × (j < self.now.translators) × (seen visited.now j ≡ false) × (table_grades self.now.codes pkg (j + 1) ≡ Some code)) }
     {
         let mut best = before;
-        for j in 0..self.translators {
-            if !visited[j as usize] {
-                best = higher_of::<K>(self.code(pkg, j + 1), best);
+        for (code, is_marked) in self.row(pkg).iter().zip(visited) {
+            if !*is_marked {
+                best = higher_of::<K>(*code, best);
             }
         }
         best

@@ -1,7 +1,7 @@
 // Which pairs of a table count: those with the grade of the floor, or one above it.
 ghost use Rattle.bottleneck.specs.Codes.{code_at, table_grades};
 ghost use Rattle.bottleneck.specs.Floors.{from_floor};
-ghost use Rattle.std.specs.Prelude.{◌≡◌, ℕ, Some, true};
+ghost use Rattle.std.specs.Prelude.{◌≡◌, ℕ, ◌+◌, ◌<◌, ◌≤◌, Some, true, length, slice_index};
 ghost use Rattle.std.proofs.Common.{rules};
 
 use super::Table;
@@ -25,6 +25,16 @@ impl<K: Kind> Table<K> {
         } else {
             0
         }
+    }
+
+    // The codes of a package, one for each translator.
+    pub(crate) fn row(&self, pkg: u8) -> &[u32]
+        requires { pkg ≤ 48 }
+        ensures long { length result.now ≡ self.now.translators }
+        ensures codes { (j : ℕ) → j < self.now.translators → slice_index result.now j ≡ code_at self.now.codes pkg (j + 1) }
+    {
+        let start = 65 * pkg as usize + 1;
+        &self.codes[start..start + self.translators as usize]
     }
 }
 
