@@ -39,6 +39,7 @@ impl<K: Kind> Table<K> {
         ensures { Highest K.above (table_grades self.now.codes) self.now.packages self.now.translators set.now.places visited.now result }
     {
         let mut best = None;
+        // a fold would owe at each turn that the search of the next row may be called
         for k in 0..self.packages {
             if set.has(k as usize) {
                 best = self.highest_in_row(k + 1, visited, best);

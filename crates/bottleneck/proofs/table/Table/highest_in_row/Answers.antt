@@ -1,5 +1,4 @@
-use Rattle.std.proofs.Common.{◌≡◌, ◌+◌, ◌<◌, false, Option, length, sym, ap, ◌∙◌, arith, rules}
-use Rattle.augmenting.specs.Owners.{seen}
+use Rattle.std.proofs.Common.{◌≡◌, ◌+◌, ◌<◌, false, length, sym, ap, ◌∙◌, arith, rules}
 use Rattle.bottleneck.proofs.Tops.{row_more}
 use Rattle.bottleneck.proofs.table.Table.highest_in_row.Goals as goal
 use Rattle.bottleneck.specs.Codes.{grade_of_code, table_grades}
