@@ -1,7 +1,7 @@
 -- Arrays that start out all alike.
 use Rattle.std.proofs.Common.{◌≡◌, ℕ, get_or, replicate, ⊎_elim, arith}
-use Rattle.std.proofs.lemmas.List.{get_or-replicate, get_or_past, length-replicate}
 use Rattle.std.proofs.lemmas.Bool.{cases_lt}
+use Rattle.std.proofs.lemmas.List.{get_or-replicate, get_or_past, length-replicate}
 
 -- read at its own default, anywhere
 pub all_alike : {X : Type 0} (n k : ℕ) (x : X) → get_or (replicate n x) k x ≡ x

@@ -1,70 +1,106 @@
 // One package after another gets a translator; where one is left over, the floor under the grades
 // is lowered as little as that asks for.
-ghost use Rattle.std.specs.Prelude.{◌≡◌, ℕ, ◌<◌, ◌≤◌, Some, None, MatchResult, slice_index};
+ghost use Rattle.std.specs.Prelude.{◌≡◌, ℕ, ◌+◌, ◌<◌, ◌≤◌, None, Some, MatchResult, IfOk, IfErr};
 ghost use Rattle.augmenting.specs.Assigned.{Complete};
 ghost use Rattle.augmenting.specs.Owners.{seen};
 ghost use Rattle.augmenting.specs.Sets.{OneFewer};
 ghost use Rattle.bottleneck.specs.Codes.{table_grades};
-ghost use Rattle.bottleneck.specs.Floors.{Valid};
-ghost use Rattle.bottleneck.specs.Grades.{AllValid, graded};
+ghost use Rattle.bottleneck.specs.Grades.{graded};
 ghost use Rattle.bottleneck.specs.Lowered.{IsLeftOver, Lowered, PlacedBefore, TightAt, at_floor};
 
-use super::Table;
-use super::leads::highest;
-use augmenting::{Members, augment, no_marks};
+use super::table::AtFloor;
+use super::{BestMatching, Table};
+use augmenting::{Members, Owners};
 use grades::Kind;
 
-// Lowers the floor to the highest grade that leads out of the set of a package left over. Answers
-// the set: tight at the new floor, or short where there is no such grade.
-fn lower<K: Kind>(
-    table: &mut Table<K>,
-    pkg: u8,
-    owner: &[u8; 64],
-    visited: &[bool; 64],
-) -> Result<Members, Members>
-    requires grades { AllValid K.valid (table_grades table.old.codes) }
-    requires floor { Valid K.valid table.old.floor }
-    requires within { (0 < pkg) × (pkg ≤ table.old.packages) }
-    requires before { PlacedBefore (at_floor K.above table.old.codes table.old.floor) table.old.translators pkg owner.now }
-    requires left { IsLeftOver (at_floor K.above table.old.codes table.old.floor) table.old.translators pkg owner.now visited.now }
-    ensures codes { table.new.codes ≡ table.old.codes }
-    ensures packages { table.new.packages ≡ table.old.packages }
-    ensures translators { table.new.translators ≡ table.old.translators }
-    ensures set { MatchResult result (λ tight. Lowered K.valid K.above table.old.codes table.old.packages table.old.translators table.old.floor table.new.floor tight.places) (λ short. OneFewer (graded (table_grades table.old.codes)) table.old.packages table.old.translators (seen short.places)) }
-{
-    let set = Members::owners_and(pkg, owner, visited);
-    match highest(table, &set, visited) {
-        Some(floor) => {
-            table.floor = Some(floor);
-            Ok(set)
+// A floor, and a set of packages that is tight there.
+#[derive(Clone, Copy)]
+pub(crate) struct Floor {
+    code: u32,
+    tight: Members,
+}
+
+impl<K: Kind> AtFloor<K> {
+    // Lowers the floor to the highest grade that leads out of the set of a package left over, or
+    // answers the set, which is short, where there is no such grade.
+    fn lower(&mut self, pkg: u8, owners: &Owners, visited: &[bool; 64]) -> Result<Floor, Members>
+        requires within { (0 < pkg) × (pkg ≤ self.old.table.packages) }
+        requires before { let table = self.old.table in
+            PlacedBefore (at_floor K.above table.codes self.old.floor) table.translators pkg owners.now.places }
+        requires left { let table = self.old.table in
+            IsLeftOver (at_floor K.above table.codes self.old.floor) table.translators pkg owners.now.places visited.now }
+        ensures table { self.new.table ≡ self.old.table }
+        ensures floor { IfOk result (λ lower. self.new.floor ≡ Some lower.code) }
+        ensures set { let table = self.old.table in
+            MatchResult result
+            (λ lower. Lowered K.valid K.above table.codes table.packages table.translators self.old.floor (Some lower.code) lower.tight.places)
+            (λ short. OneFewer (graded (table_grades table.codes)) table.packages table.translators (seen short.places)) }
+    {
+        let set = Members::owners_and(pkg, owners, visited);
+        match self.table.highest(&set, visited) {
+            Some(code) => {
+                self.floor = Some(code);
+                Ok(Floor { code, tight: set })
+            }
+            None => Err(set),
         }
-        None => Err(set),
     }
 }
 
-// Gives every package a translator at the highest floor at which all can have one. Answers a set
-// that is tight at that floor, or a short set where there is no such floor.
-pub(crate) fn match_all<K: Kind>(
-    table: &mut Table<K>,
-    owner: &mut [u8; 64],
-) -> Result<Members, Members>
-    requires grades { AllValid K.valid (table_grades table.old.codes) }
-    requires floor { table.old.floor ≡ None }
-    requires free { (j : ℕ) → slice_index owner.old j ≡ 0 }
-    ensures codes { table.new.codes ≡ table.old.codes }
-    ensures packages { table.new.packages ≡ table.old.packages }
-    ensures translators { table.new.translators ≡ table.old.translators }
-    ensures set { MatchResult result (λ tight. TightAt K.valid K.above (table_grades table.old.codes) table.old.packages table.old.translators table.new.floor tight.places × Complete (at_floor K.above table.old.codes table.new.floor) table.old.packages table.old.translators owner.new) (λ short. OneFewer (graded (table_grades table.old.codes)) table.old.packages table.old.translators (seen short.places)) }
+// Gives one package more a translator, and lowers the floor for it as often as that takes.
+fn place<K: Kind>(
+    counted: &mut AtFloor<K>,
+    pkg: u8,
+    start: Floor,
+    owners: &mut Owners,
+) -> Result<Floor, Members>
+    requires within { (0 < pkg) × (pkg ≤ counted.old.table.packages) }
+    requires floor { counted.old.floor ≡ Some start.code }
+    requires tight { let table = counted.old.table in
+        TightAt K.valid K.above (table_grades table.codes) table.packages table.translators (Some start.code) start.tight.places }
+    requires before { let table = counted.old.table in
+        PlacedBefore (at_floor K.above table.codes (Some start.code)) table.translators pkg owners.old.places }
+    ensures table { counted.new.table ≡ counted.old.table }
+    ensures floor { IfOk result (λ floor. counted.new.floor ≡ Some floor.code) }
+    ensures tight { let table = counted.old.table in IfOk result (λ floor.
+        TightAt K.valid K.above (table_grades table.codes) table.packages table.translators (Some floor.code) floor.tight.places) }
+    ensures placed { let table = counted.old.table in IfOk result (λ floor.
+        PlacedBefore (at_floor K.above table.codes (Some floor.code)) table.translators (pkg + 1) owners.new.places) }
+    ensures short { let table = counted.old.table in IfErr result (λ short.
+        OneFewer (graded (table_grades table.codes)) table.packages table.translators (seen short.places)) }
 {
-    let mut tight = Members::none();
-    let mut pkg = 1;
-    while pkg <= table.packages {
-        let mut visited = no_marks();
-        if augment(table, pkg, owner, &mut visited) {
-            pkg += 1;
-        } else {
-            tight = lower(table, pkg, owner, &visited)?;
+    let mut floor = start;
+    loop {
+        let mut visited = [false; 64];
+        if owners.augment(counted, pkg, &mut visited) {
+            return Ok(floor);
         }
+        floor = counted.lower(pkg, owners, &visited)?;
     }
-    Ok(tight)
+}
+
+// Gives every package a translator at the highest floor at which all can have one, or answers a
+// short set where there is no such floor.
+pub(crate) fn match_all<K: Kind>(counted: &mut AtFloor<K>) -> Result<BestMatching, Members>
+    requires { counted.old.floor ≡ None }
+    ensures table { counted.new.table ≡ counted.old.table }
+    ensures floor { IfOk result (λ best. counted.new.floor ≡ Some best.lowest) }
+    ensures set { let table = counted.old.table in let grades = table_grades table.codes in
+        MatchResult result
+        (λ best.
+        TightAt K.valid K.above grades table.packages table.translators (Some best.lowest) best.tight.places
+        × Complete (at_floor K.above table.codes (Some best.lowest)) table.packages table.translators best.owners.places)
+        (λ short. OneFewer (graded grades) table.packages table.translators (seen short.places)) }
+{
+    let mut owners = Owners::none();
+    // without a floor no pair counts, so that package 1 is left over
+    let mut floor = counted.lower(1, &owners, &[false; 64])?;
+    for i in 0..counted.table.packages {
+        floor = place(counted, i + 1, floor, &mut owners)?;
+    }
+    Ok(BestMatching {
+        owners,
+        lowest: floor.code,
+        tight: floor.tight,
+    })
 }
