@@ -3,8 +3,7 @@ use Rattle.std.proofs.Common.{◌≡◌, ℕ, ◌≤◌, Bool, cond, ◌&&◌, l
 use Rattle.books.specs.Meaning.{Meaning, count}
 use Rattle.bottleneck.specs.Grades.{valid_grades}
 use Rattle.matching.specs.Answers.{Answered, Room}
-use Rattle.matching.specs.declared.into.Answer.{Answer}
-use Rattle.matching.specs.declared.into.Answer.TheVariants as answer
+use Rattle.matching.specs.declared.into.Planned.{Planned}
 use Rattle.refusals.specs.declared.refusal.Refusal.{Refusal}
 use Rattle.refusals.specs.declared.refusal.Refusal.TheVariants as refusal
 use Rattle.std.proofs.lemmas.Bool.{and_from, and_parts, cases_Bool, cond-false, cond-true, le-leb, leb-true, lt-leb}
@@ -36,16 +35,16 @@ module _ (valid : ℕ → Bool) (above : ℕ → ℕ → Bool) (limit p t : ℕ)
       (λ e. cond-false roomy None (Some refusal.Space) e) (cases_Bool roomy)
 
   drawn :
-      (plan' set' : List ℕ) (r : Result Answer Refusal) → count (sheet_of p t codes) ≤ limit
+      (plan' set' : List ℕ) (r : Result (Option Planned) Refusal) → count (sheet_of p t codes) ≤ limit
       → Answered above (valid_grades valid (sheet_of p t codes)) p t plan set plan' set' r
       → DrawnAs valid above why p t codes plan set plan' set' r
-  drawn plan' set' (Ok (answer.Planned best lowest)) l a = (room_enough l a.room, a)
-  drawn plan' set' (Ok answer.Short) l a = (room_enough l a.room, a)
+  drawn plan' set' (Ok (Some best)) l a = (room_enough l a.room, a)
+  drawn plan' set' (Ok None) l a = (room_enough l a.room, a)
   drawn plan' set' (Err e) l a = (no_room l a.room ∙ ap Some (sym a.reason), a.same_plan, a.same_set)
 
   -- of a book that means the table
   pub drawn_in :
-      (m : Meaning) (plan' set' : List ℕ) (r : Result Answer Refusal) → count m ≤ limit → m ≡ sheet_of p t codes
+      (m : Meaning) (plan' set' : List ℕ) (r : Result (Option Planned) Refusal) → count m ≤ limit → m ≡ sheet_of p t codes
       → Answered above (valid_grades valid m) m.packages m.translators plan set plan' set' r
       → DrawnAs valid above why p t codes plan set plan' set' r
   drawn_in m plan' set' r l e a =
@@ -53,7 +52,7 @@ module _ (valid : ℕ → Bool) (above : ℕ → ℕ → Bool) (limit p t : ℕ)
       (subst (λ (n : Meaning). Answered above (valid_grades valid n) n.packages n.translators plan set plan' set' r) e a)
 
   pub refused_full :
-      (r : Result Answer Refusal) (e : Refusal) → IsErrAnd r (λ y. y ≡ e) → Overfull limit p t codes e
+      (r : Result (Option Planned) Refusal) (e : Refusal) → IsErrAnd r (λ y. y ≡ e) → Overfull limit p t codes e
       → DrawnAs valid above why p t codes plan set plan set r
   refused_full (Ok x) e h o = absurd h
   refused_full (Err y) e h o = (

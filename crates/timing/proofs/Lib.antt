@@ -2,4 +2,3 @@ pub mod Again
 pub mod Drawing
 pub mod Places
 pub mod Rows
-pub mod Sized

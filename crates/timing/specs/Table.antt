@@ -1,6 +1,6 @@
 -- A table of codes, row by row: package k with translator j stands at place (k - 1) * t + (j - 1).
 -- 0, or a place past the end, is no grade.
-use Rattle.std.specs.Prelude.{◌≡◌, ℕ, ◌+◌, ◌-◌, ◌*◌, ◌<◌, ◌≤◌, cond, List, None, Option, slice_index}
+use Rattle.std.specs.Prelude.{◌≡◌, ℕ, ◌+◌, ◌-◌, ◌*◌, ◌<◌, ◌≤◌, if◌then◌else◌, List, None, Option, slice_index}
 use Rattle.books.specs.Limits.{inside}
 use Rattle.books.specs.Meaning.{Meaning, count}
 use Rattle.bottleneck.specs.Codes.{grade_of_code}
@@ -8,7 +8,7 @@ use Rattle.refusals.specs.declared.refusal.Refusal.{Refusal}
 use Rattle.refusals.specs.declared.refusal.Refusal.TheVariants.{Full}
 
 abbrev pub grades_of : ℕ → ℕ → List ℕ → ℕ → ℕ → Option ℕ
-grades_of p t codes k j = cond (inside p t k j) (grade_of_code (slice_index codes ((k - 1) * t + (j - 1)))) None
+grades_of p t codes k j = (if inside p t k j then grade_of_code (slice_index codes ((k - 1) * t + (j - 1))) else None)
 
 -- what a book of these sizes means when the table is in it
 abbrev pub sheet_of : ℕ → ℕ → List ℕ → Meaning

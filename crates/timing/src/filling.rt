@@ -1,18 +1,11 @@
 // Filling a book from a table of codes: a row for each package, 0 where there is no grade.
-ghost use Rattle.std.specs.Prelude.{◌≡◌, ◌<◌, ◌≤◌, if◌then◌else◌, Ok, MatchResult, ◌==◌, slice_index};
+ghost use Rattle.std.specs.Prelude.{◌≡◌, ◌<◌, ◌≤◌, if◌then◌else◌, Ok, MatchResult, ◌==◌};
 ghost use Rattle.books.specs.Changes.{put_after, put_answer};
 ghost use Rattle.books.specs.Meaning.{Empty, count};
 ghost use Rattle.timing.specs.Table.{Overfull, Partly, sheet_of};
 
 use books::{Book, Reading};
 use refusals::Refusal;
-
-// The code at a place; past the end there is none.
-fn code_at(codes: &[u32], at: usize) -> u32
-    ensures { result ≡ slice_index codes.now at }
-{
-    if at < codes.len() { codes[at] } else { 0 }
-}
 
 fn put_code<B: Book>(book: &mut B, pkg: u32, translator: u32, code: u32) -> Result<(), Refusal>
     ensures answer { result ≡ (if code == 0 then Ok tt else put_answer B.LIMIT (B.Reading.meaning book.old) pkg translator code) }
@@ -35,7 +28,8 @@ fn fill_row<B: Book>(book: &mut B, codes: &[u32], row: u8) -> Result<(), Refusal
     let translators = book.translators();
     for column in 0..translators {
         let at = row as usize * translators as usize + column as usize;
-        let code = code_at(codes, at);
+        // past the end of the table there is no grade
+        let code = codes.get(at).copied().unwrap_or(0);
         put_code(book, row as u32 + 1, column as u32 + 1, code)?;
     }
     Ok(())

@@ -4,7 +4,7 @@ ghost use Rattle.matching.specs.Answers.{Answered};
 
 use books::Reading;
 use grades::Kind;
-use matching::{Answer, match_into};
+use matching::{Planned, match_into};
 use refusals::Refusal;
 
 // As often as is said, but at least once.
@@ -13,7 +13,7 @@ pub fn plan_again<R: Reading, K: Kind>(
     repeats: u32,
     plan: &mut [u16],
     set: &mut [u8],
-) -> Result<Answer, Refusal>
+) -> Result<Option<Planned>, Refusal>
     ensures { Answered K.above (valid_grades K.valid (R.meaning grades.now)) (R.meaning grades.now).packages (R.meaning grades.now).translators plan.old set.old plan.new set.new result }
 {
     let mut answer = match_into::<R, K>(grades, plan, set);

@@ -1,4 +1,4 @@
-use Rattle.std.proofs.Common.{◌≡◌, ◌+◌, ◌<◌, sym, refl, ◌∙◌, subst, arith}
+use Rattle.std.proofs.Common.{◌≡◌, ◌+◌, ◌*◌, ◌<◌, slice_index, rules, sym, refl, ◌∙◌, subst, arith}
 use Rattle.timing.proofs.Rows.{handed_on, in_sizes, kept_packages, kept_translators, put_more, put_overfull}
 use Rattle.timing.proofs.filling.fill_row.Goals as goal
 use Rattle.timing.specs.Table.{Overfull, Partly}
@@ -13,13 +13,14 @@ loop-column-preserved g c =
     let m' = g.B.Reading.meaning c.put_code.new.book in
     let k = c.args.row in
     let l = c.loop-column.column in
-    let code = c.code_at-code.result in
+    let code = c.unwrap_or-code.result in
+    let read : code ≡ slice_index c.args.codes.now (k * c.translators-translators.result + l) = search rules in
     let after = c.put_code.ensures.after in
     let sizes = c.translators-translators.ensures ∙ sym c.loop-column.invariant.2 in
     let a : k < m.packages = omega (arith, c.requires.row, c.loop-column.invariant.1) in
     let b : l < m.translators = omega (arith, sizes) in (
       put_more limit c.args.codes.now k l m c.loop-column.invariant.0 a b c.translators-translators.result code sizes
-          c.code_at-code.ensures m' c.put_code.result c.put_code.ensures.answer c.in_ok-put_code.was after,
+          read m' c.put_code.result c.put_code.ensures.answer c.in_ok-put_code.was after,
       kept_packages limit m m' (k + 1) (l + 1) code after ∙ c.loop-column.invariant.1,
       kept_translators limit m m' (k + 1) (l + 1) code after ∙ c.loop-column.invariant.2,
     )
@@ -42,7 +43,8 @@ returns-in_err-put_code g c =
     let m' = g.B.Reading.meaning c.put_code.new.book in
     let k = c.args.row in
     let l = c.loop-column.column in
-    let code = c.code_at-code.result in
+    let code = c.unwrap_or-code.result in
+    let read : code ≡ slice_index c.args.codes.now (k * c.translators-translators.result + l) = search rules in
     let after = c.put_code.ensures.after in
     let sizes = c.translators-translators.ensures ∙ sym c.loop-column.invariant.2 in
     let a : k < m.packages = omega (arith, c.requires.row, c.loop-column.invariant.1) in
@@ -58,5 +60,5 @@ returns-in_err-put_code g c =
           (in_sizes limit m.packages m₀.packages m.translators m₀.translators c.args.codes.now e
           c.loop-column.invariant.1 c.loop-column.invariant.2
           (put_overfull limit c.args.codes.now k l m c.loop-column.invariant.0 a b c.translators-translators.result code sizes
-          c.code_at-code.ensures c.put_code.result e c.put_code.ensures.answer c.in_err-put_code.was));
+          read c.put_code.result e c.put_code.ensures.answer c.in_err-put_code.was));
     }
