@@ -5,9 +5,11 @@ mod files;
 mod grading;
 mod opening;
 mod slips;
+mod stands;
 
 pub use drawing::Draw;
 use matching::Plan;
+pub use stands::Stands;
 use std::marker::PhantomData;
 
 // A plan as it was drawn, with its lowest code.
@@ -17,18 +19,13 @@ pub(crate) struct Drawn {
     lowest: u32,
 }
 
-#[derive(Clone, Copy)]
-pub(crate) enum State {
-    Idle,
-    SlipOut(Drawn),
-}
-
-// A book with what was drawn and published from it, for one kind of grade.
+// A book with what was drawn and published from it, for one kind of grade. A slip is out where there
+// is a drawn plan that is not yet decided on.
 #[derive(Drop)]
 pub struct Sheet<B, K> {
     book: B,
     kind: PhantomData<K>,
     tag: u32,
-    state: State,
+    out: Option<Drawn>,
     published: Option<Drawn>,
 }

@@ -1,12 +1,10 @@
-use Rattle.std.proofs.Common.{◌≡◌, ◌+◌, List, ◌∷◌, get_or, take, set, sym, ap, ◌∙◌, subst, arith}
-use Rattle.pages.specs.Answers.{Ran}
+use Rattle.std.proofs.Common.{◌≡◌, ◌+◌, List, ◌∷◌, get_or, take, set, sym, ap, ◌∙◌, subst}
 use Rattle.pages.specs.Lines.{Event, run_on}
 use Rattle.sheet.proofs.Entered.{events_more, run_push, same_item, same_rest}
 use Rattle.sheet.proofs.entries.run_entries.Goals as goal
 use Rattle.sheet.specs.Entries.{event_in, events_in}
-use Rattle.sheet.specs.Sheets.{opening_of, standing_of}
+use Rattle.sheet.specs.Sheets.{LedTo, stood_of}
 use Rattle.sheet.specs.declared.entries.Entry.{Entry}
-use Rattle.std.proofs.lemmas.List.{take_all}
 
 pub loop-e-preserved : goal.loop-e-preserved
 loop-e-preserved g c =
@@ -23,25 +21,7 @@ loop-e-preserved g c =
           ∙ run_push h es (event_in (get_or xs i d) y)
           ∙ ap (λ (z : Entry). event_in z y ∷ run_on h es) (sym item) in
           subst
-          (λ (z : List Event). Ran o z (opening_of g.B.Book.LIMIT g.K.Kind.NUMBER g.K.Kind.valid g.K.Kind.above g.B.Reading.meaning c.run_entry.new.sheet)
-          (standing_of g.B.Reading.meaning c.run_entry.new.sheet))
+          (λ (z : List Event). LedTo o z (stood_of g.B.Book.LIMIT g.K.Kind.NUMBER g.K.Kind.valid g.K.Kind.above g.B.Reading.meaning c.run_entry.new.sheet))
           (sym grown) (c.run_entry.ensures o (run_on h es) (c.loop-e.invariant.0 o h r))),
       same_rest xs ys i y c.loop-e.invariant.1,
     )
-
-pub returns : goal.returns
-returns g c =
-    let xs = c.args.page.now in
-    let ys = c.loop-e.page in
-    let i = c.loop-e.e-index in
-    let a : take i xs ≡ xs = take_all i xs c.loop-e-test.false in
-    let b : take i ys ≡ ys = take_all i ys (omega (arith, c.loop-e-test.false, c.loop-e.auto.page)) in
-    λ o h r.
-    subst
-    (λ (z : List Entry). Ran o (run_on h (events_in xs z)) (opening_of g.B.Book.LIMIT g.K.Kind.NUMBER g.K.Kind.valid g.K.Kind.above g.B.Reading.meaning c.loop-e.sheet)
-    (standing_of g.B.Reading.meaning c.loop-e.sheet))
-    b
-    (subst
-    (λ (z : List Entry). Ran o (run_on h (events_in z (take i ys))) (opening_of g.B.Book.LIMIT g.K.Kind.NUMBER g.K.Kind.valid g.K.Kind.above g.B.Reading.meaning c.loop-e.sheet)
-    (standing_of g.B.Reading.meaning c.loop-e.sheet))
-    a (c.loop-e.invariant.0 o h r))
