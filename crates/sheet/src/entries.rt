@@ -46,12 +46,6 @@ pub fn run_page<B: Book, K: Kind>(sheet: &mut Sheet<B, K>, page: &mut [Entry])
     ensures loaded { LoadedFilesAreSavedOnes }
     ensures same_plan { SameGradesSamePlan }
 {
-    run_entries(sheet, page);
-}
-
-fn run_entries<B: Book, K: Kind>(sheet: &mut Sheet<B, K>, page: &mut [Entry])
-    ensures { (o : Opened) (h : List Event) → LedTo o h (⟦<Sheet<B, K> as Stands>⟧.stood sheet.old) → LedTo o (run_on h (events_in page.old page.new)) (⟦<Sheet<B, K> as Stands>⟧.stood sheet.new) }
-{
     for e in page.iter_mut() {
         run_entry(sheet, e);
     }

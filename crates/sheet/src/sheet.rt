@@ -1,4 +1,6 @@
 // A sheet as a value.
+ghost use Rattle.std.specs.Prelude.{◌≡◌};
+
 mod admission;
 mod drawing;
 mod files;
@@ -7,6 +9,7 @@ mod opening;
 mod slips;
 mod stands;
 
+use books::{Reading, Sizes};
 pub use drawing::Draw;
 use matching::Plan;
 pub use stands::Stands;
@@ -28,4 +31,16 @@ pub struct Sheet<B, K> {
     tag: u32,
     out: Option<Drawn>,
     published: Option<Drawn>,
+}
+
+impl<B: Reading, K> Sheet<B, K> {
+    // The sizes of the book.
+    fn sizes(&self) -> Sizes
+        ensures packages { result.packages ≡ (B.meaning self.now.book).packages }
+        ensures translators { result.translators ≡ (B.meaning self.now.book).translators }
+    {
+        let packages = u32::from(self.book.packages());
+        let translators = u32::from(self.book.translators());
+        Sizes::check(packages, translators).unwrap()
+    }
 }

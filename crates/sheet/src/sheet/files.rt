@@ -14,7 +14,7 @@ ghost use Rattle.sheet.specs.Told.{asked, told_done};
 use super::admission::{Incoming, check_role};
 use super::{Sheet, Stands};
 use crate::Role;
-use books::{Book, Sizes, is_empty};
+use books::{Book, is_empty};
 use file_loading::put_records;
 use grades::Kind;
 use refusals::Refusal;
@@ -27,14 +27,8 @@ impl<B: Book, K: Kind> Sheet<B, K> {
     pub fn save(&self, role: u32, out: &mut [u8]) -> Result<usize, Refusal>
         ensures answer { result ≡ save_answer role (file_of_sheet (⟦<Self as Stands>⟧.stood self.now)) out.old }
         ensures after { out.new ≡ save_after role (file_of_sheet (⟦<Self as Stands>⟧.stood self.now)) out.old }
-        ensures standing { (o : Opened) (h : List Event) → LedTo o h (⟦<Self as Stands>⟧.stood self.now) → file_of_sheet (⟦<Self as Stands>⟧.stood self.now) ≡ file_at o h }
-    {
-        self.write_grades(role, out)
-    }
-
-    fn write_grades(&self, role: u32, out: &mut [u8]) -> Result<usize, Refusal>
-        ensures answer { result ≡ save_answer role (file_of_sheet (⟦<Self as Stands>⟧.stood self.now)) out.old }
-        ensures after { out.new ≡ save_after role (file_of_sheet (⟦<Self as Stands>⟧.stood self.now)) out.old }
+        ensures standing { (o : Opened) (h : List Event) → LedTo o h (⟦<Self as Stands>⟧.stood self.now)
+            → file_of_sheet (⟦<Self as Stands>⟧.stood self.now) ≡ file_at o h }
     {
         check_role(Role::Reader, role)?;
         write_file::<K, B>(&self.book, out)
@@ -69,16 +63,6 @@ impl<B: Book, K: Kind> Sheet<B, K> {
         }
         put_file::<B, K>(&mut self.book, &checked);
         Ok(())
-    }
-
-    // The sizes of the book.
-    pub(crate) fn sizes(&self) -> Sizes
-        ensures packages { result.packages ≡ (B.Reading.meaning self.now.book).packages }
-        ensures translators { result.translators ≡ (B.Reading.meaning self.now.book).translators }
-    {
-        let packages = u32::from(self.book.packages());
-        let translators = u32::from(self.book.translators());
-        Sizes::check(packages, translators).unwrap()
     }
 }
 

@@ -18,7 +18,8 @@ impl<B: Book, K: Kind> Sheet<B, K> {
     pub fn publish(&mut self, role: u32, slip: Slip) -> Result<(), (Refusal, Slip)>
         ensures { (plan set : List ℕ) → RanLine (⟦<Self as Stands>⟧.stood self.old) (⟦<Self as Stands>⟧.stood self.new) (asked role (Call.publish slip.tag) plan set) (told_spent result plan set) }
     {
-        self.published = self.spend_slip(Role::Manager, role, slip)?;
+        let drawn = self.spend_slip(Role::Manager, role, slip)?;
+        self.published = drawn;
         Ok(())
     }
 

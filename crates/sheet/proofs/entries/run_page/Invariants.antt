@@ -1,5 +1,5 @@
 use Rattle.pages.specs.Lines.{Opening, Event, run_on}
-use Rattle.sheet.proofs.entries.run_entries.Given as goal
+use Rattle.sheet.proofs.entries.run_page.Given as goal
 use Rattle.sheet.specs.Entries.{events_in}
 use Rattle.sheet.specs.Sheets.{LedTo, stood_of}
 use Rattle.std.proofs.Common.{◌≡◌, List, take, drop}
