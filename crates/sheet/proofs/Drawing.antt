@@ -1,5 +1,5 @@
 -- Draw as a line of a page.
-use Rattle.std.proofs.Common.{◌≡◌, ℕ, ◌≤◌, Bool, true, false, List, length, is_some, Some, None, Ok, Err, Option, Result, if◌then◌else◌, sym, refl, ap, ◌∙◌, subst, ⊎_elim, arith, lit≤}
+use Rattle.std.proofs.Common.{◌≡◌, ℕ, ◌≤◌, Bool, true, false, List, length, is_some, Some, None, Ok, Err, Option, Result, if◌then◌else◌, sym, refl, ap, ◌∙◌, subst, ⊎_elim, lit≤}
 use Rattle.matching.specs.Answers.{NoRoom, Answered}
 use Rattle.matching.specs.Plans.{BestPlan}
 use Rattle.matching.specs.Written.{numbers_of}

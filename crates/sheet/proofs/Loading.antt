@@ -1,5 +1,5 @@
 -- Load as a line of a page.
-use Rattle.std.proofs.Common.{◌≡◌, ℕ, ◌<◌, true, false, ◌⊎◌, List, is_some, Some, None, Ok, Err, Option, Result, sym, refl, ap, ◌∙◌, inl, inr, lit≤, subst}
+use Rattle.std.proofs.Common.{◌≡◌, ℕ, ◌<◌, ◌⊎◌, List, Some, None, Ok, Err, Option, Result, sym, refl, ap, ◌∙◌, inl, inr, lit≤, subst}
 use Rattle.file_format.proofs.Once.{right_or_one_fault}
 use Rattle.file_format.specs.FileOf.{grade_in}
 use Rattle.file_format.specs.Layout.{count_in}
@@ -8,7 +8,7 @@ use Rattle.pages.proofs.Clear.{Clear, all_clear}
 use Rattle.pages.proofs.Clears.{load_clear}
 use Rattle.pages.specs.Answers.{Right}
 use Rattle.pages.specs.Lines.{Opening, Line, Call, Outcome}
-use Rattle.pages.specs.Reasons.{Reason, may, file_expected}
+use Rattle.pages.specs.Reasons.{Reason, file_expected}
 use Rattle.pages.specs.Standing.{Standing, first_of}
 use Rattle.refusals.specs.Refusals.{number_of}
 use Rattle.refusals.specs.declared.fault.Fault.{Fault}

@@ -1,10 +1,10 @@
 -- Grade and strike as lines of a page.
-use Rattle.std.proofs.Common.{◌≡◌, ℕ, Bool, true, false, not, ◌&&◌, List, is_some, is_ok, Some, None, Ok, Err, Result, if◌then◌else◌, ◌==◌, sym, refl, ap, subst, lit≤, arith}
+use Rattle.std.proofs.Common.{◌≡◌, ℕ, Bool, true, false, not, ◌&&◌, List, is_some, is_ok, Some, None, Ok, Err, Result, if◌then◌else◌, ◌==◌, sym, refl, ap, subst, lit≤}
 use Rattle.books.specs.Limits.{inside}
 use Rattle.pages.proofs.Clear.{all_clear}
 use Rattle.pages.proofs.Clears.{grade_clear, strike_clear}
-use Rattle.pages.specs.Answers.{Right, Untouched}
-use Rattle.pages.specs.Lines.{Opening, Line, Call, Answer, Outcome}
+use Rattle.pages.specs.Answers.{Right}
+use Rattle.pages.specs.Lines.{Opening, Line, Call}
 use Rattle.pages.specs.Reasons.{Reason, may}
 use Rattle.pages.specs.Standing.{Standing, next}
 use Rattle.refusals.specs.declared.refusal.Refusal.{Refusal}

@@ -1,5 +1,5 @@
 -- Publish and withdraw as lines of a page.
-use Rattle.std.proofs.Common.{◌≡◌, ℕ, ◌≤◌, Bool, true, false, not, List, is_some, is_ok, Some, None, Ok, Err, Option, Result, if◌then◌else◌, ◌==◌, sym, refl, ap, ◌∙◌, subst, arith, lit≤}
+use Rattle.std.proofs.Common.{◌≡◌, ℕ, ◌≤◌, Bool, true, false, not, List, is_some, Some, None, Ok, Err, Option, Result, if◌then◌else◌, ◌==◌, sym, refl, ap, ◌∙◌, subst, lit≤}
 use Rattle.pages.proofs.Calls.{ordinal}
 use Rattle.pages.proofs.Clear.{Clear, all_clear}
 use Rattle.pages.proofs.Clears.{spend_clear}

@@ -1,5 +1,5 @@
 -- What a sheet means: its opening, and what stands on it.
-use Rattle.std.specs.Prelude.{◌≡◌, ℕ, Bool, List, length, Some, Option}
+use Rattle.std.specs.Prelude.{◌≡◌, ℕ, Bool, List, length, Some}
 use Rattle.books.specs.Meaning.{Meaning}
 use Rattle.file_format.specs.FileOf.{file_of}
 use Rattle.matching.specs.Written.{numbers_of}

@@ -31,7 +31,8 @@ pub struct Entry {
 // Runs every line in turn. Whatever history led to the sheet grows by these lines, all and in order,
 // with the answers that the entries then hold; and of every history holds what `call` says.
 pub fn run_page<B: Book, K: Kind>(sheet: &mut Sheet<B, K>, page: &mut [Entry])
-    ensures ran { (o : Opened) (h : List Event) → LedTo o h (⟦<Sheet<B, K> as Stands>⟧.stood sheet.old) → LedTo o (run_on h (events_in page.old page.new)) (⟦<Sheet<B, K> as Stands>⟧.stood sheet.new) }
+    ensures ran { (o : Opened) (h : List Event) → LedTo o h (⟦<Sheet<B, K> as Stands>⟧.stood sheet.old)
+        → LedTo o (run_on h (events_in page.old page.new)) (⟦<Sheet<B, K> as Stands>⟧.stood sheet.new) }
     ensures refused { RefusedForTheFirstReason }
     ensures drawn { DrawnLinesHaveTheBestPlan }
     ensures short { ShortLinesHaveNoPlan }
@@ -52,7 +53,8 @@ pub fn run_page<B: Book, K: Kind>(sheet: &mut Sheet<B, K>, page: &mut [Entry])
 }
 
 fn run_entry<B: Book, K: Kind>(sheet: &mut Sheet<B, K>, entry: &mut Entry)
-    ensures { (o : Opened) (h : List Event) → LedTo o h (⟦<Sheet<B, K> as Stands>⟧.stood sheet.old) → LedTo o (event_in entry.old entry.new ∷ h) (⟦<Sheet<B, K> as Stands>⟧.stood sheet.new) }
+    ensures { (o : Opened) (h : List Event) → LedTo o h (⟦<Sheet<B, K> as Stands>⟧.stood sheet.old)
+        → LedTo o (event_in entry.old entry.new ∷ h) (⟦<Sheet<B, K> as Stands>⟧.stood sheet.new) }
 {
     let line = line_of(entry.ask, &entry.file);
     let Answer { outcome, slip } = sheet.call(line, &mut entry.plan, &mut entry.set);

@@ -16,7 +16,9 @@ impl<B: Book, K: Kind> Sheet<B, K> {
     // Runs a line with its own buffers: every history that led to this sheet grows by this line and
     // its answer. The other clauses are what holds over every such history.
     pub fn call(&mut self, line: Line<'_>, plan: &mut [u16], set: &mut [u8]) -> Answer<Slip>
-        ensures ran { (o : Opened) (h : List Event) → LedTo o h (⟦<Self as Stands>⟧.stood self.old) → LedTo o (event_of line.entry plan.old set.old result plan.new set.new ∷ h) (⟦<Self as Stands>⟧.stood self.new) }
+        ensures ran { (o : Opened) (h : List Event) → LedTo o h (⟦<Self as Stands>⟧.stood self.old)
+            → LedTo o (event_of line.entry plan.old set.old result plan.new set.new ∷ h)
+            (⟦<Self as Stands>⟧.stood self.new) }
         ensures refused { RefusedForTheFirstReason }
         ensures drawn { DrawnLinesHaveTheBestPlan }
         ensures short { ShortLinesHaveNoPlan }
@@ -35,7 +37,9 @@ impl<B: Book, K: Kind> Sheet<B, K> {
     }
 
     fn answer_to(&mut self, line: Line<'_>, plan: &mut [u16], set: &mut [u8]) -> Answer<Slip>
-        ensures { Fits (⟦<Self as Stands>⟧.stood self.old) → RanLine (⟦<Self as Stands>⟧.stood self.old) (⟦<Self as Stands>⟧.stood self.new) (asked_of line.entry plan.old set.old) (told_of result plan.new set.new) }
+        ensures { Fits (⟦<Self as Stands>⟧.stood self.old)
+            → RanLine (⟦<Self as Stands>⟧.stood self.old) (⟦<Self as Stands>⟧.stood self.new)
+            (asked_of line.entry plan.old set.old) (told_of result plan.new set.new) }
     {
         match line {
             Line::Grade {

@@ -60,7 +60,8 @@ impl<B, K> Sheet<B, K> {
 
 impl<B: Book, K: Kind> Sheet<B, K> {
     pub(crate) fn settle(&mut self, next: Next, drawn: Option<Planned>)
-        ensures { ⟦<Self as Stands>⟧.stood self.new ≡ after (⟦<Self as Stands>⟧.stood self.old) next (option_map drawn_of drawn) }
+        ensures { ⟦<Self as Stands>⟧.stood self.new
+            ≡ after (⟦<Self as Stands>⟧.stood self.old) next (option_map drawn_of drawn) }
     {
         self.out = match next {
             Next::Idle => None,

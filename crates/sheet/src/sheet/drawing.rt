@@ -29,7 +29,8 @@ impl<B: Book, K: Kind> Sheet<B, K> {
         plan: &mut [u16],
         set: &mut [u8],
     ) -> Result<Option<Draw>, Refusal>
-        ensures { RanLine (⟦<Self as Stands>⟧.stood self.old) (⟦<Self as Stands>⟧.stood self.new) (asked role Call.draw plan.old set.old) (told_draw result plan.new set.new) }
+        ensures { RanLine (⟦<Self as Stands>⟧.stood self.old) (⟦<Self as Stands>⟧.stood self.new)
+            (asked role Call.draw plan.old set.old) (told_draw result plan.new set.new) }
     {
         let next = self.let_in(Role::Editor, role, Incoming::Draw)?;
         self.draw_now(next, plan, set)
@@ -41,7 +42,8 @@ impl<B: Book, K: Kind> Sheet<B, K> {
         plan: &mut [u16],
         set: &mut [u8],
     ) -> Result<Option<Draw>, Refusal>
-        ensures { DrawsNow (⟦<Self as Stands>⟧.stood self.old) next plan.old set.old plan.new set.new result (⟦<Self as Stands>⟧.stood self.new) }
+        ensures { DrawsNow (⟦<Self as Stands>⟧.stood self.old) next plan.old set.old plan.new set.new result
+            (⟦<Self as Stands>⟧.stood self.new) }
     {
         let drawn = match_into::<B, K>(&self.book, plan, set)?;
         self.settle(next, drawn);
@@ -55,15 +57,19 @@ impl<B: Book, K: Kind> Sheet<B, K> {
     // fits, so the second clause is the first in the words of a page.
     pub fn show(&self, role: u32, plan: &mut [u16]) -> Result<u32, Refusal>
         ensures answer { result ≡ show_answer (⟦<Self as Stands>⟧.stood self.now) role plan.old }
-        ensures written { plan.new ≡ (if is_ok result then shown_in (⟦<Self as Stands>⟧.stood self.now).standing.published plan.old else plan.old) }
-        ensures ran { Fits (⟦<Self as Stands>⟧.stood self.now) → (set : List ℕ) → RanLine (⟦<Self as Stands>⟧.stood self.now) (⟦<Self as Stands>⟧.stood self.now) (asked role Call.show plan.old set) (told_show result plan.new set) }
+        ensures written { plan.new
+            ≡ (if is_ok result then shown_in (⟦<Self as Stands>⟧.stood self.now).standing.published plan.old else plan.old) }
+        ensures ran { Fits (⟦<Self as Stands>⟧.stood self.now) → (set : List ℕ)
+            → RanLine (⟦<Self as Stands>⟧.stood self.now) (⟦<Self as Stands>⟧.stood self.now)
+            (asked role Call.show plan.old set) (told_show result plan.new set) }
     {
         self.show_plan(role, plan)
     }
 
     fn show_plan(&self, role: u32, plan: &mut [u16]) -> Result<u32, Refusal>
         ensures answer { result ≡ show_answer (⟦<Self as Stands>⟧.stood self.now) role plan.old }
-        ensures written { plan.new ≡ (if is_ok result then shown_in (⟦<Self as Stands>⟧.stood self.now).standing.published plan.old else plan.old) }
+        ensures written { plan.new
+            ≡ (if is_ok result then shown_in (⟦<Self as Stands>⟧.stood self.now).standing.published plan.old else plan.old) }
     {
         check_role(Role::Reader, role)?;
         let drawn = self.published.ok_or(Refusal::NothingThere)?;

@@ -37,7 +37,9 @@ impl<B: Book, K: Kind> Sheet<B, K> {
     // Reads a file into a sheet without grades: the whole file is checked, then the limit, and only
     // then is the first record put.
     pub fn load(&mut self, role: u32, file: &[u8]) -> Result<(), Refusal>
-        ensures { (plan set : List ℕ) → RanLine (⟦<Self as Stands>⟧.stood self.old) (⟦<Self as Stands>⟧.stood self.new) (asked role (Call.load file.now) plan set) (told_done result plan set) }
+        ensures { (plan set : List ℕ)
+            → RanLine (⟦<Self as Stands>⟧.stood self.old) (⟦<Self as Stands>⟧.stood self.new)
+            (asked role (Call.load file.now) plan set) (told_done result plan set) }
     {
         self.may_load(role)?;
         self.load_now(file)

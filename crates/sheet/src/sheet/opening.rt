@@ -14,7 +14,11 @@ impl<B: Book, K: Kind> Sheet<B, K> {
     // Idle, without grades and without a published plan, if the book is passed as empty; else the
     // book is handed back.
     pub fn open(book: B, tag: u32) -> Result<Sheet<B, K>, (Refusal, B)>
-        ensures { MatchResult result (λ s. (s.book ≡ book) × LedTo (opened_with B.LIMIT K.NUMBER K.valid K.above (B.Reading.meaning book) tag) [] (⟦<Self as Stands>⟧.stood s)) (λ e. (e ≡ (NotEmpty, book)) × (Empty (B.Reading.meaning book) → ⊥)) }
+        ensures { MatchResult result
+            (λ s. (s.book ≡ book)
+            × LedTo (opened_with B.LIMIT K.NUMBER K.valid K.above (B.Reading.meaning book) tag) []
+            (⟦<Self as Stands>⟧.stood s))
+            (λ e. (e ≡ (NotEmpty, book)) × (Empty (B.Reading.meaning book) → ⊥)) }
     {
         Ok(Sheet {
             book: pass_as_empty(book)?,

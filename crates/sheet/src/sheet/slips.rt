@@ -17,7 +17,9 @@ use refusals::Refusal;
 impl<B: Book, K: Kind> Sheet<B, K> {
     // Spends the slip and records the drawn plan as the published one.
     pub fn publish(&mut self, role: u32, slip: Slip) -> Result<(), (Refusal, Slip)>
-        ensures { (plan set : List ℕ) → RanLine (⟦<Self as Stands>⟧.stood self.old) (⟦<Self as Stands>⟧.stood self.new) (asked role (Call.publish slip.tag) plan set) (told_spent result plan set) }
+        ensures { (plan set : List ℕ)
+            → RanLine (⟦<Self as Stands>⟧.stood self.old) (⟦<Self as Stands>⟧.stood self.new)
+            (asked role (Call.publish slip.tag) plan set) (told_spent result plan set) }
     {
         let drawn = self.spend_slip(Role::Manager, role, slip)?;
         self.published = drawn;
@@ -26,7 +28,9 @@ impl<B: Book, K: Kind> Sheet<B, K> {
 
     // Spends the slip and drops the drawn plan.
     pub fn withdraw(&mut self, role: u32, slip: Slip) -> Result<(), (Refusal, Slip)>
-        ensures { (plan set : List ℕ) → RanLine (⟦<Self as Stands>⟧.stood self.old) (⟦<Self as Stands>⟧.stood self.new) (asked role (Call.withdraw slip.tag) plan set) (told_spent result plan set) }
+        ensures { (plan set : List ℕ)
+            → RanLine (⟦<Self as Stands>⟧.stood self.old) (⟦<Self as Stands>⟧.stood self.new)
+            (asked role (Call.withdraw slip.tag) plan set) (told_spent result plan set) }
     {
         self.spend_slip(Role::Editor, role, slip)?;
         Ok(())
@@ -40,8 +44,11 @@ impl<B: Book, K: Kind> Sheet<B, K> {
         slip: Slip,
     ) -> Result<Option<Planned>, (Refusal, Slip)>
         ensures answer { handed result ≡ spend_answer least (⟦<Self as Stands>⟧.stood self.old) role slip }
-        ensures after { ⟦<Self as Stands>⟧.stood self.new ≡ (if is_ok result then with_plans (⟦<Self as Stands>⟧.stood self.old) Lacks (⟦<Self as Stands>⟧.stood self.old).standing.published else ⟦<Self as Stands>⟧.stood self.old) }
+        ensures after { ⟦<Self as Stands>⟧.stood self.new
+            ≡ (if is_ok result then with_plans (⟦<Self as Stands>⟧.stood self.old) Lacks (⟦<Self as Stands>⟧.stood self.old).standing.published
+            else ⟦<Self as Stands>⟧.stood self.old) }
     {
+        // A match, since a closure for map_err would take the slip away from the other arm.
         match self.let_in(least, role, Incoming::Spend(slip.tag())) {
             Ok(next) => {
                 let drawn = self.out;

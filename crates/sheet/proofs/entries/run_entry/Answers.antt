@@ -1,4 +1,4 @@
-use Rattle.std.proofs.Common.{◌≡◌, ℕ, List, length, vec_items, rules, ap, ◌∙◌, subst, ◌∷◌, Option}
+use Rattle.std.proofs.Common.{◌≡◌, ℕ, List, length, vec_items, rules, ap, ◌∙◌, subst, ◌∷◌}
 use Rattle.pages.specs.Lines.{Event}
 use Rattle.sheet.proofs.Entered.{same_event}
 use Rattle.sheet.proofs.entries.run_entry.Goals as goal
