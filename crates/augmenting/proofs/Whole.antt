@@ -1,9 +1,10 @@
 -- Whole matchings: one package released, and the same package placed first.
-use Rattle.std.proofs.Common.{◌≡◌, ℕ, ◌+◌, ◌-◌, ◌<◌, ◌≤◌, Bool, true, false, List, get_or, sym, refl, ap, ◌∙◌, ⊎_elim, arith}
+use Rattle.std.proofs.Common.{◌≡◌, ℕ, ◌+◌, ◌-◌, ◌<◌, ◌≤◌, Bool, true, false, ◌&&◌, ltb, List, get_or, map, sym, refl, ap, ◌∙◌, ⊎_elim, arith}
 use Rattle.augmenting.proofs.Blocked.{blocked}
 use Rattle.augmenting.specs.Assigned.{Assigns, Complete, Least, PlacedFirst}
 use Rattle.augmenting.specs.Owners.{Augmented, Closed, Free, Has, Kept, Matching, Tried, seen}
-use Rattle.std.proofs.lemmas.Bool.{both_ways, cases_Bool, cases_eq, cases_lt}
+use Rattle.std.proofs.lemmas.Bool.{and_from, and_parts, both_ways, cases_Bool, cases_eq, cases_lt, lt-ltb, ltb-true}
+use Rattle.std.proofs.Math.ListN.{get_or-map}
 
 -- the function of a whole matching
 pub chosen : (C : ℕ → ℕ → Bool) (p t : ℕ) (o : List ℕ) → Complete C p t o → (k : ℕ) → (j : ℕ) × (k < p → get_or o j 0 ≡ k + 1)
@@ -29,6 +30,23 @@ pub record Released (i : ℕ) (o n : List ℕ) (v : List Bool) : Type 0 where
   pub only : (j : ℕ) → seen v j ≡ true → (0 < get_or o j 0) × (get_or o j 0 < i)
   pub freed : (j : ℕ) → get_or o j 0 ≡ i → get_or n j 0 ≡ 0
   pub others : (j : ℕ) → (get_or o j 0 ≡ i → ⊥) → get_or n j 0 ≡ get_or o j 0
+
+pub released_by :
+    (i : ℕ) (o n : List ℕ) (v : List Bool) → v ≡ map (λ k. ltb 0 k && ltb k i) o
+    → ((j : ℕ) → get_or o j 0 ≡ i → get_or n j 0 ≡ 0) → ((j : ℕ) → (get_or o j 0 ≡ i → ⊥) → get_or n j 0 ≡ get_or o j 0)
+    → Released i o n v
+released_by i o n v e freed others =
+    record {
+      marked = λ j z l. mark j ∙ and_from (ltb 0 (get_or o j 0)) (ltb (get_or o j 0) i) (lt-ltb 0 (get_or o j 0) z) (lt-ltb (get_or o j 0) i l);
+      only = λ j q.
+          let b = and_parts (ltb 0 (get_or o j 0)) (ltb (get_or o j 0) i) (sym (mark j) ∙ q) in
+          (ltb-true 0 (get_or o j 0) b.0, ltb-true (get_or o j 0) i b.1);
+      freed = freed;
+      others = others;
+    }
+  where
+    mark : (j : ℕ) → seen v j ≡ (ltb 0 (get_or o j 0) && ltb (get_or o j 0) i)
+    mark j = ap (λ w. seen w j) e ∙ get_or-map (λ k. ltb 0 k && ltb k i) o j 0
 
 pub released_old : (i : ℕ) (o n : List ℕ) (v : List Bool) → Released i o n v → (j : ℕ) → 0 < get_or n j 0 → get_or n j 0 ≡ get_or o j 0
 released_old i o n v r j z = ⊎_elim (λ e. absurd (let q = r.freed j e in omega (arith, q, z))) (λ d. r.others j d) (cases_eq (get_or o j 0) i)

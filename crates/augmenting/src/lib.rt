@@ -4,10 +4,14 @@
 
 mod firsts;
 mod members;
+mod owners;
 mod paths;
 mod pattern;
 
-pub use firsts::{no_marks, place_all_first};
 pub use members::Members;
-pub use paths::augment;
+pub use owners::Owners;
 pub use pattern::Pattern;
+
+pub const MOST_PACKAGES: u8 = 48;
+
+pub const MOST_TRANSLATORS: u8 = 64;

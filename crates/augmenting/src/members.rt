@@ -3,7 +3,7 @@ ghost use Rattle.std.specs.Prelude.{◌≡◌, ℕ, ◌+◌, ◌<◌, true, fals
 ghost use Rattle.augmenting.specs.Owners.{seen};
 ghost use Rattle.augmenting.specs.Sets.{OwnersAnd};
 
-const MOST_PACKAGES: u8 = 48;
+use super::{MOST_PACKAGES, Owners};
 
 // At place k whether package k + 1 is a member.
 #[derive(Clone, Copy)]
@@ -16,43 +16,39 @@ impl Members {
     pub fn none() -> Members
         ensures { (k : ℕ) → seen result.places k ≡ false }
     {
-        Members { places: nobody() }
+        Members {
+            places: [false; 48],
+        }
     }
 
     // A package, and all that own a marked translator.
-    pub fn owners_and(pkg: u8, owner: &[u8; 64], visited: &[bool; 64]) -> Members
-        ensures { OwnersAnd owner.now visited.now pkg result.places }
+    pub fn owners_and(pkg: u8, owners: &Owners, visited: &[bool; 64]) -> Members
+        ensures { OwnersAnd owners.now.places visited.now pkg result.places }
     {
-        let mut places = nobody();
-        include(&mut places, pkg);
-        for j in 0..64 {
-            if visited[j] {
-                include(&mut places, owner[j]);
+        let mut set = Members::none();
+        set.include(pkg);
+        for (owner, is_marked) in owners.places().iter().zip(visited) {
+            if *is_marked {
+                set.include(*owner);
             }
         }
-        Members { places }
+        set
     }
 
     // Whether the package of that place is a member.
-    pub fn has(&self, place: u8) -> bool
+    pub fn has(&self, place: usize) -> bool
         ensures { result ≡ seen self.now.places place }
     {
-        place < MOST_PACKAGES && self.places[place as usize]
+        self.places.get(place).copied().unwrap_or(false)
     }
-}
 
-fn nobody() -> [bool; 48]
-    ensures { (k : ℕ) → seen result k ≡ false }
-{
-    [false; 48]
-}
-
-// Takes in a package by its number.
-fn include(places: &mut [bool; 48], pkg: u8)
-    ensures one { (k : ℕ) → k + 1 ≡ pkg → k < 48 → seen places.new k ≡ true }
-    ensures others { (k : ℕ) → (k + 1 ≢ pkg) → seen places.new k ≡ seen places.old k }
-{
-    if 0 < pkg && pkg <= MOST_PACKAGES {
-        places[(pkg - 1) as usize] = true;
+    // Takes in a package by its number.
+    fn include(&mut self, pkg: u8)
+        ensures one { (k : ℕ) → k + 1 ≡ pkg → k < 48 → seen self.new.places k ≡ true }
+        ensures others { (k : ℕ) → (k + 1 ≢ pkg) → seen self.new.places k ≡ seen self.old.places k }
+    {
+        if 0 < pkg && pkg <= MOST_PACKAGES {
+            self.places[usize::from(pkg) - 1] = true;
+        }
     }
 }

@@ -1,5 +1,5 @@
 -- A pair inside the sizes, as four orders of numbers.
-use Rattle.std.proofs.Common.{◌≡◌, ℕ, ◌≤◌, true, ◌&&◌, leb, Some, None, Option, sym, ◌∙◌, ⊎_elim, arith}
+use Rattle.std.proofs.Common.{◌≡◌, ℕ, ◌≤◌, true, ◌&&◌, nat_le, Some, None, Option, sym, ◌∙◌, ⊎_elim, arith}
 use Rattle.books.specs.Limits.{inside}
 use Rattle.books.specs.Meaning.{Meaning, Sound}
 use Rattle.std.proofs.lemmas.Bool.{and_parts, leb-true, cases_Bool}
@@ -12,9 +12,9 @@ pub record Lies (p t i j : ℕ) : Type 0 where
 
 pub lies : (p t i j : ℕ) → inside p t i j ≡ true → Lies p t i j
 lies p t i j e =
-    let w = and_parts (leb 1 i && leb i p && leb 1 j) (leb j t) e in
-    let v = and_parts (leb 1 i && leb i p) (leb 1 j) w.0 in
-    let u = and_parts (leb 1 i) (leb i p) v.0 in
+    let w = and_parts (nat_le 1 i && nat_le i p && nat_le 1 j) (nat_le j t) e in
+    let v = and_parts (nat_le 1 i && nat_le i p) (nat_le 1 j) w.0 in
+    let u = and_parts (nat_le 1 i) (nat_le i p) v.0 in
     record {
       row = leb-true 1 i u.0;
       row_most = leb-true i p u.1;

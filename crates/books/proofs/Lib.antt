@@ -1,3 +1,4 @@
 pub mod Inside
 pub mod Outcomes
 pub mod Standing
+pub mod Upward

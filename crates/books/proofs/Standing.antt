@@ -1,5 +1,5 @@
 -- Counting the grades that stand: one step of a loop, one changed pair, none, and at most how many.
-use Rattle.std.proofs.Common.{◌≡◌, ℕ, zero, suc, ◌+◌, ◌*◌, ◌≤◌, true, false, ◌&&◌, eqb, ◌⊎◌, Some, None, Option, refl, ap, ◌∙◌, inl, inr, ⊎_elim, suc-mul, add-one, arith}
+use Rattle.std.proofs.Common.{◌≡◌, ℕ, zero, suc, ◌+◌, ◌*◌, ◌≤◌, true, false, ◌&&◌, ◌==◌, ◌⊎◌, Some, None, Option, refl, ap, ◌∙◌, inl, inr, ⊎_elim, suc-mul, mul-le-mul, add-one, arith}
 use Rattle.books.proofs.Inside.{lies}
 use Rattle.books.specs.Limits.{inside}
 use Rattle.books.specs.Meaning.{one, in_row, standing, changed, Meaning, Sound, Empty, count}
@@ -19,11 +19,11 @@ changed_same f a b v = simp (eq-eqb a a refl, eq-eqb b b refl)
 pub changed_other :
     (f : ℕ → ℕ → Option ℕ) (a b : ℕ) (v : Option ℕ) (i j : ℕ)
     → ((i ≡ a) × (j ≡ b) → ⊥) → changed f a b v i j ≡ f i j
-changed_other f a b v i j n = cond-false (eqb i a && eqb j b) v (f i j) (apart (cases_Bool (eqb i a && eqb j b)))
+changed_other f a b v i j n = cond-false (i == a && j == b) v (f i j) (apart (cases_Bool (i == a && j == b)))
   where
-    apart : ((eqb i a && eqb j b) ≡ true) ⊎ ((eqb i a && eqb j b) ≡ false) → (eqb i a && eqb j b) ≡ false
+    apart : ((i == a && j == b) ≡ true) ⊎ ((i == a && j == b) ≡ false) → (i == a && j == b) ≡ false
     apart (inl e) =
-        let w = and_parts (eqb i a) (eqb j b) e in
+        let w = and_parts (i == a) (j == b) e in
         absurd (n (eqb-true i a w.0, eqb-true j b w.1))
     apart (inr e) = e
 
@@ -52,6 +52,13 @@ pub standing_le : (f : ℕ → ℕ → Option ℕ) (p t : ℕ) → standing f p 
 unfolding standing
 standing_le f zero t = omega arith
 standing_le f (suc p) t = omega (arith, standing_le f p t, in_row_le (f (suc p)) t, suc-mul p t)
+
+-- at most 48 rows of 64
+pub count_le : (m : Meaning) → Sound m → count m ≤ 3072
+count_le m s =
+    let w = s.sizes in
+    let h : m.packages * m.translators ≤ 48 * 64 = mul-le-mul w.1 w.3 in
+    omega (arith, h, standing_le m.grade m.packages m.translators)
 
 -- two rows that agree
 pub in_row_same :

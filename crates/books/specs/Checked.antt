@@ -1,5 +1,5 @@
 -- What checking two numbers as the sizes of a book answers: the sizes, or that they are refused.
-use Rattle.std.specs.Prelude.{ℕ, cond, Ok, Err, Result}
+use Rattle.std.specs.Prelude.{ℕ, if◌then◌else◌, Ok, Err, Result}
 use Rattle.books.specs.Limits.{within}
 use Rattle.books.specs.declared.sizes.Sizes.{Sizes}
 use Rattle.refusals.specs.declared.refusal.Refusal.{Refusal}
@@ -11,4 +11,4 @@ checked (Ok s) = Ok (s.packages, s.translators)
 checked (Err e) = Err e
 
 abbrev pub sizes_of : ℕ → ℕ → Result (ℕ × ℕ) Refusal
-sizes_of p t = cond (within p t) (Ok (p, t)) (Err Size)
+sizes_of p t = (if within p t then Ok (p, t) else Err Size)

@@ -1,7 +1,7 @@
 -- What a book means: its sizes and, for each pair of a package and a translator, one code or none.
 -- Every book that keeps `Sound` and the rules of put and take is right; how it stores its grades is
 -- its own affair.
-use Rattle.std.specs.Prelude.{◌≡◌, ℕ, zero, suc, ◌+◌, false, cond, ◌&&◌, Some, None, Option, ◌==◌}
+use Rattle.std.specs.Prelude.{◌≡◌, ℕ, zero, suc, ◌+◌, false, if◌then◌else◌, ◌&&◌, Some, None, Option, ◌==◌}
 use Rattle.books.specs.Limits.{Within, inside}
 
 pub record Meaning : Type 0 where
@@ -25,7 +25,7 @@ pub record Blank (p t : ℕ) (m : Meaning) : Type 0 where
 
 -- the same grades but for one pair
 abbrev pub changed : (ℕ → ℕ → Option ℕ) → ℕ → ℕ → Option ℕ → ℕ → ℕ → Option ℕ
-changed f a b v i j = cond (i == a && j == b) v (f i j)
+changed f a b v i j = (if (i == a && j == b) then v else f i j)
 
 abbrev pub with_grade : Meaning → ℕ → ℕ → Option ℕ → Meaning
 with_grade m a b v =

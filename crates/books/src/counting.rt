@@ -11,24 +11,18 @@ fn grades_of_package<R: Reading>(book: &R, pkg: u32) -> u16
     ensures count { result ≡ in_row ((R.meaning book.now).grade pkg) (R.meaning book.now).translators }
     ensures bound { result ≤ 64 }
 {
-    let mut n = 0;
-    for translator in 0..u32::from(book.translators()) {
-        if book.grade_of(pkg, translator + 1).is_some() {
-            n += 1;
-        }
-    }
-    n
+    (1..=u32::from(book.translators()))
+        .filter(|&translator| book.grade_of(pkg, translator).is_some())
+        .count() as u16
 }
 
 // How many grades stand in a book.
 pub fn standing_grades<R: Reading>(book: &R) -> u16
     ensures { result ≡ count (R.meaning book.now) }
 {
-    let mut n = 0;
-    for pkg in 0..u32::from(book.packages()) {
-        n += grades_of_package(book, pkg + 1);
-    }
-    n
+    (1..=u32::from(book.packages()))
+        .map(|pkg| grades_of_package(book, pkg))
+        .sum()
 }
 
 pub fn is_empty<R: Reading>(book: &R) -> bool

@@ -1,5 +1,5 @@
 -- From the table that was read to the grades of the book.
-use Rattle.std.proofs.Common.{◌≡◌, ℕ, ◌<◌, ◌≤◌, Bool, List, Some, None, Option, sym, subst, arith}
+use Rattle.std.proofs.Common.{◌≡◌, ℕ, ◌<◌, Bool, List, Some, Option, subst}
 use Rattle.augmenting.specs.Assigned.{Complete, Least}
 use Rattle.augmenting.specs.Owners.{seen}
 use Rattle.augmenting.specs.Sets.{OneFewer}
@@ -7,19 +7,15 @@ use Rattle.bottleneck.specs.Codes.{table_grades}
 use Rattle.bottleneck.specs.Found.{MatchedFirst}
 use Rattle.bottleneck.specs.Grades.{graded}
 use Rattle.bottleneck.specs.Lowered.{TightAt, at_floor}
-use Rattle.std.proofs.lemmas.Bool.{false≢true}
 
 pub found_first :
-    (valid : ℕ → Bool) (above : ℕ → ℕ → Bool) (codes : List ℕ) (G : ℕ → ℕ → Option ℕ) (p p' t t' : ℕ) (floor : Option ℕ) (lowest : ℕ) (o : List ℕ) (s : List Bool)
-    → ((k j : ℕ) → table_grades codes k j ≡ G k j) → p ≡ p' → t ≡ t' → floor ≡ Some lowest
-    → TightAt valid above (table_grades codes) p t floor s → Complete (at_floor above codes floor) p t o
-    → ((k : ℕ) → k < p → Least (at_floor above codes floor) p t o k)
+    (valid : ℕ → Bool) (above : ℕ → ℕ → Bool) (codes : List ℕ) (G : ℕ → ℕ → Option ℕ) (p p' t t' lowest : ℕ) (o : List ℕ) (s : List Bool)
+    → ((k j : ℕ) → table_grades codes k j ≡ G k j) → p ≡ p' → t ≡ t'
+    → TightAt valid above (table_grades codes) p t (Some lowest) s → Complete (at_floor above codes (Some lowest)) p t o
+    → ((k : ℕ) → k < p → Least (at_floor above codes (Some lowest)) p t o k)
     → MatchedFirst valid above G p' t' o lowest s
-found_first valid above codes G p p' t t' floor lowest o s e f h q tight complete least =
-    let y = subst (λ (x : Option ℕ). TightAt valid above (table_grades codes) p t x s) q tight in
-    let z = subst (λ (x : Option ℕ). Complete (at_floor above codes x) p t o) q complete in
-    let w = subst (λ (x : Option ℕ). (k : ℕ) → k < p → Least (at_floor above codes x) p t o k) q least in
-    let here : MatchedFirst valid above (table_grades codes) p t o lowest s = record { right = y.0; complete = z; least = w; tight = y.1 } in
+found_first valid above codes G p p' t t' lowest o s e f h tight complete least =
+    let here : MatchedFirst valid above (table_grades codes) p t o lowest s = record { right = tight.0; complete = complete; least = least; tight = tight.1 } in
     let same : table_grades codes ≡ G = λ i k j. e k j i in
     subst (λ (x : ℕ). MatchedFirst valid above G p' x o lowest s) h
     (subst (λ (x : ℕ). MatchedFirst valid above G x t o lowest s) f
@@ -34,31 +30,3 @@ found_short codes G p p' t t' s e f h here =
     subst (λ (x : ℕ). OneFewer (graded G) p' x (seen s)) h
     (subst (λ (x : ℕ). OneFewer (graded G) x t (seen s)) f
     (subst (λ (x : ℕ → ℕ → Option ℕ). OneFewer (graded x) p t (seen s)) same here))
-
--- at least one package has a translator, so there is a floor
-pub some_floor :
-    (above : ℕ → ℕ → Bool) (codes : List ℕ) (p t : ℕ) (floor : Option ℕ) (o : List ℕ)
-    → 1 ≤ p → floor ≡ None → Complete (at_floor above codes floor) p t o → ⊥
-some_floor above codes p t floor o l q complete =
-    let z = subst (λ (x : Option ℕ). Complete (at_floor above codes x) p t o) q complete in
-    let y = z.all 0 (omega arith) in
-    let e = y.1 in
-    false≢true (z.matching.joined y.0 (omega (arith, e)))
-
--- the same of a table that is known to be alike
-pub alike_complete :
-    (above : ℕ → ℕ → Bool) (codes codes' : List ℕ) (p p' t t' : ℕ) (floor : Option ℕ) (o : List ℕ)
-    → codes' ≡ codes → p' ≡ p → t' ≡ t → Complete (at_floor above codes floor) p t o → Complete (at_floor above codes' floor) p' t' o
-alike_complete above codes codes' p p' t t' floor o e f h c =
-    subst (λ (x : List ℕ). Complete (at_floor above x floor) p' t' o) (sym e)
-    (subst (λ (x : ℕ). Complete (at_floor above codes floor) x t' o) (sym f)
-    (subst (λ (x : ℕ). Complete (at_floor above codes floor) p x o) (sym h) c))
-
-pub alike_tight :
-    (valid : ℕ → Bool) (above : ℕ → ℕ → Bool) (codes codes' : List ℕ) (p p' t t' : ℕ) (floor : Option ℕ) (s : List Bool)
-    → codes' ≡ codes → p' ≡ p → t' ≡ t → TightAt valid above (table_grades codes) p t floor s
-    → TightAt valid above (table_grades codes') p' t' floor s
-alike_tight valid above codes codes' p p' t t' floor s e f h c =
-    subst (λ (x : List ℕ). TightAt valid above (table_grades x) p' t' floor s) (sym e)
-    (subst (λ (x : ℕ). TightAt valid above (table_grades codes) x t' floor s) (sym f)
-    (subst (λ (x : ℕ). TightAt valid above (table_grades codes) p x floor s) (sym h) c))

@@ -66,18 +66,18 @@ graded_of above (Some b) (Some code) e = refl
 
 -- the facts of a package left over, as the set has them
 pub stuck :
-    (C : ℕ → ℕ → Bool) (p t i : ℕ) (o : List ℕ) (w s : List Bool) → 0 < i → i ≤ p → p ≤ length s
+    (C : ℕ → ℕ → Bool) (p t i : ℕ) (o : List ℕ) (w s : List Bool) → (0 < i) × (i ≤ p) → p ≤ 48 → length s ≡ 48
     → PlacedBefore C t i o → IsLeftOver C t i o w → OwnersAnd o w i s → Stuck C p t i o [] w s
-stuck C p t i o w s z l h b f g =
+stuck C p t i o w s some few full b f g =
     record {
-      some = (z, l);
+      some = some;
       matching = b.matching;
       free = λ j e. let x = b.below j in omega (arith, x, e);
-      below = λ j. let x = b.below j in omega (arith, x);
+      below = λ j. let x = b.below j in let l = some.1 in omega (arith, x, l);
       fresh = λ j. refl;
       closed = f.closed;
       tried = f.tried;
-      wide = h;
+      wide = omega (arith, few, full);
       set = g;
     }
 

@@ -1,9 +1,8 @@
 -- One package more has a translator, and a lower floor takes none away.
-use Rattle.std.proofs.Common.{◌≡◌, ℕ, ◌+◌, Bool, true, List, get_or, Option, sym, refl, ◌∙◌, subst, ⊎_elim, arith}
-use Rattle.augmenting.specs.Owners.{Augmented, Free}
-use Rattle.bottleneck.specs.Codes.{table_grades}
-use Rattle.bottleneck.specs.Lowered.{Lowered, PlacedBefore, TightAt, at_floor}
-use Rattle.std.proofs.lemmas.Bool.{cases_eq, cases_lt}
+use Rattle.std.proofs.Common.{◌≡◌, ℕ, ◌+◌, Bool, true, false, List, get_or, None, Option, sym, refl, ◌∙◌, subst, ⊎_elim, arith}
+use Rattle.augmenting.specs.Owners.{Augmented, Closed, Free, Tried, seen}
+use Rattle.bottleneck.specs.Lowered.{IsLeftOver, Lowered, PlacedBefore, at_floor}
+use Rattle.std.proofs.lemmas.Bool.{both_ways, cases_eq, cases_lt, false≢true}
 
 pub left_free : (C : ℕ → ℕ → Bool) (t i : ℕ) (o : List ℕ) → PlacedBefore C t i o → Free o i
 left_free C t i o b j e = let x = b.below j in omega (arith, x, e)
@@ -40,18 +39,40 @@ placed_wider C D t i o g b =
       below = b.below;
     }
 
--- after the floor is lowered, by what is known of the table before it
+-- after the floor is lowered
 pub still_placed :
-    (valid : ℕ → Bool) (above : ℕ → ℕ → Bool) (codes codes' : List ℕ) (p p' t t' i : ℕ) (old new : Option ℕ) (s : List Bool) (o n : List ℕ)
-    → codes' ≡ codes → p' ≡ p → t' ≡ t → n ≡ o → Lowered valid above codes p t old new s
-    → PlacedBefore (at_floor above codes old) t i o
-    → PlacedBefore (at_floor above codes' new) t' i n × TightAt valid above (table_grades codes') p' t' new s
-still_placed valid above codes codes' p p' t t' i old new s o n e f h q l b = (
-  subst (λ (x : List ℕ). PlacedBefore (at_floor above x new) t' i n) (sym e)
-      (subst (λ (x : ℕ). PlacedBefore (at_floor above codes new) x i n) (sym h)
-      (subst (λ (x : List ℕ). PlacedBefore (at_floor above codes new) t i x) (sym q)
-      (placed_wider (at_floor above codes old) (at_floor above codes new) t i o l.grows b))),
-  subst (λ (x : List ℕ). TightAt valid above (table_grades x) p' t' new s) (sym e)
-      (subst (λ (x : ℕ). TightAt valid above (table_grades codes) x t' new s) (sym f)
-      (subst (λ (x : ℕ). TightAt valid above (table_grades codes) p x new s) (sym h) l.tight)),
-)
+    (valid : ℕ → Bool) (above : ℕ → ℕ → Bool) (codes : List ℕ) (p t i : ℕ) (old new : Option ℕ) (s : List Bool) (o n : List ℕ)
+    → n ≡ o → Lowered valid above codes p t old new s → PlacedBefore (at_floor above codes old) t i o
+    → PlacedBefore (at_floor above codes new) t i n
+still_placed valid above codes p t i old new s o n q l b =
+    subst (λ (x : List ℕ). PlacedBefore (at_floor above codes new) t i x) (sym q)
+    (placed_wider (at_floor above codes old) (at_floor above codes new) t i o l.grows b)
+
+-- a try in vain that began with no marks
+pub left_over :
+    (C : ℕ → ℕ → Bool) (t i : ℕ) (o n : List ℕ) (v w : List Bool) → ((j : ℕ) → seen v j ≡ false) → n ≡ o
+    → Closed C t o v w → Tried C i w t → IsLeftOver C t i n w
+left_over C t i o n v w fresh q c tried =
+    subst (λ (x : List ℕ). IsLeftOver C t i x w) (sym q)
+    (record {
+      closed = record {
+        grows = λ j e. absurd (false≢true e);
+        owned = λ j e f. c.owned j e (fresh j);
+        reach = λ j k e f l d. c.reach j k e (fresh j) l d;
+      };
+      tried = tried;
+    })
+
+-- without a floor there is nothing to try
+pub nothing_to_try :
+    (above : ℕ → ℕ → Bool) (codes : List ℕ) (t i : ℕ) (o : List ℕ) (w : List Bool) → ((j : ℕ) → seen w j ≡ false)
+    → IsLeftOver (at_floor above codes None) t i o w
+nothing_to_try above codes t i o w fresh =
+    record {
+      closed = record {
+        grows = λ j e. absurd (false≢true e);
+        owned = λ j e f. absurd (both_ways (seen w j) (fresh j) e);
+        reach = λ j k e f l d. absurd (false≢true d);
+      };
+      tried = λ j l e. absurd (false≢true e);
+    }

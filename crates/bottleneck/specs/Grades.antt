@@ -1,11 +1,11 @@
 -- Which grades count in a kind, and which pairs they join.
-use Rattle.std.specs.Prelude.{◌≡◌, ℕ, Bool, true, false, cond, not, is_some, Some, None, Option}
+use Rattle.std.specs.Prelude.{◌≡◌, ℕ, Bool, true, false, not, if◌then◌else◌, is_some, Some, None, Option}
 use Rattle.books.specs.Meaning.{Meaning}
 
 -- a code that is not valid in the kind counts as no grade
 abbrev pub counted : (ℕ → Bool) → Option ℕ → Option ℕ
 counted valid None = None
-counted valid (Some code) = cond (valid code) (Some code) None
+counted valid (Some code) = (if valid code then Some code else None)
 
 abbrev pub valid_grades : (ℕ → Bool) → Meaning → ℕ → ℕ → Option ℕ
 valid_grades valid m k j = counted valid (m.grade k j)

@@ -1,70 +1,84 @@
 // One package after another gets a translator; where one is left over, the floor under the grades
 // is lowered as little as that asks for.
-ghost use Rattle.std.specs.Prelude.{◌≡◌, ℕ, ◌<◌, ◌≤◌, Some, None, MatchResult, slice_index};
+ghost use Rattle.std.specs.Prelude.{◌≡◌, ℕ, ◌+◌, ◌<◌, ◌≤◌, Some, MatchResult, IfOk, IfErr};
 ghost use Rattle.augmenting.specs.Assigned.{Complete};
 ghost use Rattle.augmenting.specs.Owners.{seen};
 ghost use Rattle.augmenting.specs.Sets.{OneFewer};
 ghost use Rattle.bottleneck.specs.Codes.{table_grades};
-ghost use Rattle.bottleneck.specs.Floors.{Valid};
-ghost use Rattle.bottleneck.specs.Grades.{AllValid, graded};
+ghost use Rattle.bottleneck.specs.Grades.{graded};
 ghost use Rattle.bottleneck.specs.Lowered.{IsLeftOver, Lowered, PlacedBefore, TightAt, at_floor};
 
-use super::Table;
-use super::leads::highest;
-use augmenting::{Members, augment, no_marks};
+use super::table::AtFloor;
+use super::{BestMatching, Table};
+use augmenting::{Members, Owners};
 use grades::Kind;
 
-// Lowers the floor to the highest grade that leads out of the set of a package left over. Answers
-// the set: tight at the new floor, or short where there is no such grade.
-fn lower<K: Kind>(
-    table: &mut Table<K>,
-    pkg: u8,
-    owner: &[u8; 64],
-    visited: &[bool; 64],
-) -> Result<Members, Members>
-    requires grades { AllValid K.valid (table_grades table.old.codes) }
-    requires floor { Valid K.valid table.old.floor }
-    requires within { (0 < pkg) × (pkg ≤ table.old.packages) }
-    requires before { PlacedBefore (at_floor K.above table.old.codes table.old.floor) table.old.translators pkg owner.now }
-    requires left { IsLeftOver (at_floor K.above table.old.codes table.old.floor) table.old.translators pkg owner.now visited.now }
-    ensures codes { table.new.codes ≡ table.old.codes }
-    ensures packages { table.new.packages ≡ table.old.packages }
-    ensures translators { table.new.translators ≡ table.old.translators }
-    ensures set { MatchResult result (λ tight. Lowered K.valid K.above table.old.codes table.old.packages table.old.translators table.old.floor table.new.floor tight.places) (λ short. OneFewer (graded (table_grades table.old.codes)) table.old.packages table.old.translators (seen short.places)) }
-{
-    let set = Members::owners_and(pkg, owner, visited);
-    match highest(table, &set, visited) {
-        Some(floor) => {
-            table.floor = Some(floor);
-            Ok(set)
+// A floor, and a set of packages that is tight there.
+#[derive(Clone, Copy)]
+pub(crate) struct Floor {
+    code: u32,
+    tight: Members,
+}
+
+impl<'t, K: Kind> AtFloor<'t, K> {
+    // Lowers the floor to the highest grade that leads out of the set of a package left over, or
+    // answers the set, which is short, where there is no such grade.
+    fn lower(&self, pkg: u8, owners: &Owners, visited: &[bool; 64]) -> Result<Floor, Members>
+        requires within { (0 < pkg) × (pkg ≤ self.now.table.now.packages) }
+        requires before { PlacedBefore (at_floor K.above self.now.table.now.codes self.now.floor) self.now.table.now.translators pkg owners.now.places }
+        requires left { IsLeftOver (at_floor K.above self.now.table.now.codes self.now.floor) self.now.table.now.translators pkg owners.now.places visited.now }
+        ensures { MatchResult result (λ lower. Lowered K.valid K.above self.now.table.now.codes self.now.table.now.packages self.now.table.now.translators self.now.floor (Some lower.code) lower.tight.places) (λ short. OneFewer (graded (table_grades self.now.table.now.codes)) self.now.table.now.packages self.now.table.now.translators (seen short.places)) }
+    {
+        let set = Members::owners_and(pkg, owners, visited);
+        match self.table.highest(&set, visited) {
+            Some(code) => Ok(Floor { code, tight: set }),
+            None => Err(set),
         }
-        None => Err(set),
     }
 }
 
-// Gives every package a translator at the highest floor at which all can have one. Answers a set
-// that is tight at that floor, or a short set where there is no such floor.
-pub(crate) fn match_all<K: Kind>(
-    table: &mut Table<K>,
-    owner: &mut [u8; 64],
-) -> Result<Members, Members>
-    requires grades { AllValid K.valid (table_grades table.old.codes) }
-    requires floor { table.old.floor ≡ None }
-    requires free { (j : ℕ) → slice_index owner.old j ≡ 0 }
-    ensures codes { table.new.codes ≡ table.old.codes }
-    ensures packages { table.new.packages ≡ table.old.packages }
-    ensures translators { table.new.translators ≡ table.old.translators }
-    ensures set { MatchResult result (λ tight. TightAt K.valid K.above (table_grades table.old.codes) table.old.packages table.old.translators table.new.floor tight.places × Complete (at_floor K.above table.old.codes table.new.floor) table.old.packages table.old.translators owner.new) (λ short. OneFewer (graded (table_grades table.old.codes)) table.old.packages table.old.translators (seen short.places)) }
+// Gives one package more a translator, and lowers the floor for it as often as that takes.
+fn place<K: Kind>(
+    table: &Table<K>,
+    pkg: u8,
+    start: Floor,
+    owners: &mut Owners,
+) -> Result<Floor, Members>
+    requires within { (0 < pkg) × (pkg ≤ table.now.packages) }
+    requires tight { TightAt K.valid K.above (table_grades table.now.codes) table.now.packages table.now.translators (Some start.code) start.tight.places }
+    requires before { PlacedBefore (at_floor K.above table.now.codes (Some start.code)) table.now.translators pkg owners.old.places }
+    ensures tight { IfOk result (λ floor. TightAt K.valid K.above (table_grades table.now.codes) table.now.packages table.now.translators (Some floor.code) floor.tight.places) }
+    ensures placed { IfOk result (λ floor. PlacedBefore (at_floor K.above table.now.codes (Some floor.code)) table.now.translators (pkg + 1) owners.new.places) }
+    ensures short { IfErr result (λ short. OneFewer (graded (table_grades table.now.codes)) table.now.packages table.now.translators (seen short.places)) }
 {
-    let mut tight = Members::none();
-    let mut pkg = 1;
-    while pkg <= table.packages {
-        let mut visited = no_marks();
-        if augment(table, pkg, owner, &mut visited) {
-            pkg += 1;
-        } else {
-            tight = lower(table, pkg, owner, &visited)?;
+    let mut floor = start;
+    loop {
+        let counted = AtFloor {
+            table,
+            floor: Some(floor.code),
+        };
+        let mut visited = [false; 64];
+        if owners.augment(&counted, pkg, &mut visited) {
+            return Ok(floor);
         }
+        floor = counted.lower(pkg, owners, &visited)?;
     }
-    Ok(tight)
+}
+
+// Gives every package a translator at the highest floor at which all can have one, or answers a
+// short set where there is no such floor.
+pub(crate) fn match_all<K: Kind>(table: &Table<K>) -> Result<BestMatching, Members>
+    ensures { MatchResult result (λ best. TightAt K.valid K.above (table_grades table.now.codes) table.now.packages table.now.translators (Some best.lowest) best.tight.places × Complete (at_floor K.above table.now.codes (Some best.lowest)) table.now.packages table.now.translators best.owners.places) (λ short. OneFewer (graded (table_grades table.now.codes)) table.now.packages table.now.translators (seen short.places)) }
+{
+    let mut owners = Owners::none();
+    // without a floor no pair counts, so that package 1 is left over
+    let mut floor = AtFloor { table, floor: None }.lower(1, &owners, &[false; 64])?;
+    for i in 0..table.packages {
+        floor = place(table, i + 1, floor, &mut owners)?;
+    }
+    Ok(BestMatching {
+        owners,
+        lowest: floor.code,
+        tight: floor.tight,
+    })
 }

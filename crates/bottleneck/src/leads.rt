@@ -1,9 +1,8 @@
 // The highest grade that leads out of a set of packages, past the translators that are marked.
-ghost use Rattle.std.specs.Prelude.{◌≡◌, ℕ, ◌+◌, ◌<◌, false, not, ◌&&◌, ◌⊎◌, if◌then◌else◌, Some, ◌==◌};
+ghost use Rattle.std.specs.Prelude.{◌≡◌, ℕ, ◌+◌, ◌<◌, ◌≤◌, false, not, ◌&&◌, ◌⊎◌, if◌then◌else◌, Some, ◌==◌};
 ghost use Rattle.augmenting.specs.Owners.{seen};
 ghost use Rattle.bottleneck.specs.Codes.{table_grades};
 ghost use Rattle.bottleneck.specs.Floors.{Highest, HighestInRow, Valid, higher};
-ghost use Rattle.bottleneck.specs.Grades.{AllValid};
 
 use super::Table;
 use augmenting::Members;
@@ -13,42 +12,39 @@ use grades::Kind;
 fn higher_of<K: Kind>(code: u32, best: Option<u32>) -> Option<u32>
     ensures { result ≡ (if not (code == 0) && higher K.above code best then Some code else best) }
 {
-    match best {
-        _ if code == 0 => best,
-        Some(old) if !K::is_above(code, old) => best,
-        _ => Some(code),
+    if code != 0 && best.is_none_or(|old| K::is_above(code, old)) {
+        Some(code)
+    } else {
+        best
     }
 }
 
-fn highest_in_row<K: Kind>(
-    table: &Table<K>,
-    pkg: u8,
-    visited: &[bool; 64],
-    before: Option<u32>,
-) -> Option<u32>
-    requires valid { AllValid K.valid (table_grades table.now.codes) }
-    requires right { Valid K.valid before }
-    ensures best { HighestInRow K.valid K.above (table_grades table.now.codes) table.now.translators pkg visited.now before result }
-    ensures from { (code : ℕ) → result ≡ Some code → (before ≡ Some code) ⊎ ((j : ℕ) × (j < table.now.translators) × (seen visited.now j ≡ false) × (table_grades table.now.codes pkg (j + 1) ≡ Some code)) }
-{
-    let mut best = before;
-    for j in 0..table.translators {
-        if !visited[j as usize] {
-            best = higher_of::<K>(table.code(pkg, j + 1), best);
+impl<K: Kind> Table<K> {
+    fn highest_in_row(&self, pkg: u8, visited: &[bool; 64], before: Option<u32>) -> Option<u32>
+        requires few { pkg ≤ 48 }
+        requires right { Valid K.valid before }
+        ensures best { HighestInRow K.valid K.above (table_grades self.now.codes) self.now.translators pkg visited.now before result }
+        ensures from { (code : ℕ) → result ≡ Some code → (before ≡ Some code) ⊎ ((j : ℕ) × (j < self.now.translators) × (seen visited.now j ≡ false) × (table_grades self.now.codes pkg (j + 1) ≡ Some code)) }
+    {
+        let mut best = before;
+        for (code, is_marked) in self.row(pkg).iter().zip(visited) {
+            if !*is_marked {
+                best = higher_of::<K>(*code, best);
+            }
         }
+        best
     }
-    best
-}
 
-pub(crate) fn highest<K: Kind>(table: &Table<K>, set: &Members, visited: &[bool; 64]) -> Option<u32>
-    requires { AllValid K.valid (table_grades table.now.codes) }
-    ensures { Highest K.above (table_grades table.now.codes) table.now.packages table.now.translators set.now.places visited.now result }
-{
-    let mut best = None;
-    for k in 0..table.packages {
-        if set.has(k) {
-            best = highest_in_row(table, k + 1, visited, best);
+    pub(crate) fn highest(&self, set: &Members, visited: &[bool; 64]) -> Option<u32>
+        ensures { Highest K.above (table_grades self.now.codes) self.now.packages self.now.translators set.now.places visited.now result }
+    {
+        let mut best = None;
+        // a fold would owe at each turn that the search of the next row may be called
+        for k in 0..self.packages {
+            if set.has(k as usize) {
+                best = self.highest_in_row(k + 1, visited, best);
+            }
         }
+        best
     }
-    best
 }

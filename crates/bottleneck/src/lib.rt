@@ -6,5 +6,5 @@ mod floors;
 mod leads;
 mod table;
 
-pub use best::{Best, best_matching};
+pub use best::{BestMatching, best_matching};
 use table::Table;

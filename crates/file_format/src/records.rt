@@ -1,7 +1,7 @@
 // The records of a saved file, as they are read.
 
 // The record of section 1: a kind number and sizes, as yet unchecked.
-#[derive(Clone, Copy)]
+#[derive(Clone, Copy, PartialEq, Eq, Debug)]
 pub struct SheetRecord {
     pub kind: u8,
     pub packages: u8,
@@ -9,7 +9,7 @@ pub struct SheetRecord {
 }
 
 // A record of section 2: the code of one pair.
-#[derive(Clone, Copy)]
+#[derive(Clone, Copy, PartialEq, Eq, Debug)]
 pub struct GradeRecord {
     pub pkg: u8,
     pub translator: u8,

@@ -1,3 +1,4 @@
+pub mod Names
 pub mod Order
 pub mod Points
 pub mod Ratings

@@ -1,8 +1,8 @@
 -- What every kind of grade keeps: code 0 is no grade, and the valid codes stand in a strict order.
-use Rattle.std.specs.Prelude.{◌≡◌, ℕ, ◌^◌, ◌<◌, Bool, true, false, cond, not, ◌&&◌, ◌==◌}
+use Rattle.std.specs.Prelude.{◌≡◌, ℕ, ◌^◌, ◌<◌, Bool, true, false, if◌then◌else◌, not, ◌&&◌, ◌==◌}
 
 abbrev pub exactly_one : Bool → Bool → Bool → Bool
-exactly_one a b c = cond a (not b && not c) (cond b (not c) c)
+exactly_one a b c = if a then not b && not c else if b then not c else c
 
 pub record Order (valid : ℕ → Bool) (above : ℕ → ℕ → Bool) : Type 0 where
   pub no_zero : valid 0 ≡ false

@@ -4,9 +4,11 @@
 ghost use Rattle.std.specs.Prelude.{◌≡◌, ℕ, ◌≤◌, Bool};
 ghost use Rattle.grades.specs.Order.{Order};
 
+mod kind_name;
 mod points;
 mod ratings;
 
+pub use kind_name::{KindName, UnknownKind};
 pub use points::Points;
 pub use ratings::Ratings;
 

@@ -23,7 +23,7 @@ impl Kind for Points {
     ghost order = { Prim.search rules };
 
     fn is_valid(code: u32) -> bool {
-        1 <= code && code <= MOST_POINTS
+        (1..=MOST_POINTS).contains(&code)
     }
 
     fn is_above(first: u32, second: u32) -> bool {

@@ -5,6 +5,7 @@ ghost use Rattle.std.specs.Prelude.{◌≡◌};
 ghost use Rattle.std.proofs.Common.{rules};
 
 use super::Kind;
+use std::cmp::Reverse;
 
 const MOST_DAYS: u32 = 20_000;
 
@@ -49,7 +50,7 @@ impl Kind for Ratings {
 
     fn is_above(first: u32, second: u32) -> bool {
         match (read_rating(first), read_rating(second)) {
-            (Some(a), Some(b)) => a.class < b.class || a.class == b.class && a.days > b.days,
+            (Some(a), Some(b)) => (a.class, Reverse(a.days)) < (b.class, Reverse(b.days)),
             _ => false,
         }
     }

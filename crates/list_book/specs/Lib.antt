@@ -2,4 +2,3 @@ pub mod Entries
 pub mod Meant
 pub mod Order
 pub mod Outside
-pub mod Table

@@ -1,12 +1,12 @@
 // One entry of the list: a pair and its code.
 ghost use Rattle.list_book.specs.Entries.{regraded};
-ghost use Rattle.list_book.specs.Order.{before};
-ghost use Rattle.std.specs.Ordering.{MatchOrdering};
-ghost use Rattle.std.specs.Prelude.{◌≡◌, true};
+ghost use Rattle.list_book.specs.Order.{compared};
+ghost use Rattle.std.specs.Prelude.{◌≡◌};
 
+use books::Pair;
 use std::cmp::Ordering;
 
-#[derive(Clone, Copy)]
+#[derive(Clone, Copy, Default)]
 pub struct Entry {
     pub pkg: u32,
     pub translator: u32,
@@ -15,10 +15,10 @@ pub struct Entry {
 
 impl Entry {
     // Where the entry stands to a pair: by package, and by translator where the packages are the same.
-    pub fn compare(&self, pkg: u32, translator: u32) -> Ordering
-        ensures { MatchOrdering result (before self.now.pkg self.now.translator pkg translator ≡ true) ((self.now.pkg ≡ pkg) × (self.now.translator ≡ translator)) (before pkg translator self.now.pkg self.now.translator ≡ true) }
+    pub fn compare(&self, pair: Pair) -> Ordering
+        ensures { result ≡ compared self.now pair.pkg pair.translator }
     {
-        self.pkg.cmp(&pkg).then(self.translator.cmp(&translator))
+        (self.pkg, self.translator).cmp(&(pair.pkg, pair.translator))
     }
 
     // Replaces the code, and leaves the pair as it is.

@@ -3,6 +3,5 @@
 
 mod book;
 mod entry;
-mod rows;
 
 pub use book::ListBook;

@@ -1,20 +1,19 @@
 -- What matching answers: a best plan with a tight set exactly where there is a full plan, and else
 -- a short set.
-use Rattle.std.specs.Prelude.{◌≡◌, ℕ, ◌<◌, ◌≤◌, Bool, ◌⊎◌, List, length, take, drop, Ok, Err, Option, Result, ◌==◌, slice_index}
+use Rattle.std.specs.Prelude.{◌≡◌, ℕ, ◌<◌, ◌≤◌, Bool, ◌⊎◌, List, length, take, drop, Some, None, Ok, Err, Option, Result, ◌==◌, slice_index}
 use Rattle.augmenting.specs.Owners.{seen}
 use Rattle.matching.specs.Plans.{BestPlan, NoPlan, ShortSet, TightSet}
 use Rattle.matching.specs.Written.{numbers_of}
-use Rattle.matching.specs.declared.best.Matched.{Matched}
-use Rattle.matching.specs.declared.best.Matched.TheVariants as matched
-use Rattle.matching.specs.declared.into.Answer.{Answer}
-use Rattle.matching.specs.declared.into.Answer.TheVariants as answer
+use Rattle.augmenting.specs.declared.members.Members.{Members}
+use Rattle.matching.specs.declared.best.BestPlan.{BestPlan as BestAndSet}
+use Rattle.matching.specs.declared.into.Planned.{Planned}
 use Rattle.refusals.specs.declared.refusal.Refusal.{Refusal}
 use Rattle.refusals.specs.declared.refusal.Refusal.TheVariants.{Space}
 
-abbrev pub Right : (ℕ → ℕ → Bool) → (ℕ → ℕ → Option ℕ) → ℕ → ℕ → Matched → Type 0
-Right above G p t (matched.Planned plan lowest tight) =
-    BestPlan above G p t (numbers_of plan) lowest × TightSet above G p t lowest (seen tight.places)
-Right above G p t (matched.Short short) = NoPlan G p t × ShortSet G p t (seen short.places)
+abbrev pub Right : (ℕ → ℕ → Bool) → (ℕ → ℕ → Option ℕ) → ℕ → ℕ → Result BestAndSet Members → Type 0
+Right above G p t (Ok best) =
+    BestPlan above G p t (numbers_of best.plan) best.lowest × TightSet above G p t best.lowest (seen best.tight.places)
+Right above G p t (Err short) = NoPlan G p t × ShortSet G p t (seen short.places)
 
 -- a set of packages in a buffer of bytes: 1 for a member, 0 for any other
 abbrev pub member : List ℕ → ℕ → Bool
@@ -53,7 +52,7 @@ pub record NoRoom (p : ℕ) (plan set plan' set' : List ℕ) (refusal : Refusal)
   pub same_set : set' ≡ set
 
 abbrev pub Answered :
-    (ℕ → ℕ → Bool) → (ℕ → ℕ → Option ℕ) → ℕ → ℕ → List ℕ → List ℕ → List ℕ → List ℕ → Result Answer Refusal → Type 0
-Answered above G p t plan set plan' set' (Ok (answer.Planned best lowest)) = PlanWritten above G p t plan set plan' set' (numbers_of best) lowest
-Answered above G p t plan set plan' set' (Ok answer.Short) = ShortWritten G p t plan set plan' set'
+    (ℕ → ℕ → Bool) → (ℕ → ℕ → Option ℕ) → ℕ → ℕ → List ℕ → List ℕ → List ℕ → List ℕ → Result (Option Planned) Refusal → Type 0
+Answered above G p t plan set plan' set' (Ok (Some best)) = PlanWritten above G p t plan set plan' set' (numbers_of best.plan) best.lowest
+Answered above G p t plan set plan' set' (Ok None) = ShortWritten G p t plan set plan' set'
 Answered above G p t plan set plan' set' (Err refusal) = NoRoom p plan set plan' set' refusal

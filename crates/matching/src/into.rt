@@ -4,16 +4,17 @@ ghost use Rattle.augmenting.specs.Owners.{seen};
 ghost use Rattle.bottleneck.specs.Grades.{valid_grades};
 ghost use Rattle.matching.specs.Answers.{Answered};
 
-use super::{Matched, Plan, best_plan};
+use super::{Plan, best_plan};
 use augmenting::Members;
 use books::Reading;
 use grades::Kind;
 use refusals::Refusal;
 
+// A plan and its lowest grade.
 #[derive(Clone, Copy)]
-pub enum Answer {
-    Planned { plan: Plan, lowest: u32 },
-    Short,
+pub struct Planned {
+    pub plan: Plan,
+    pub lowest: u32,
 }
 
 // 1 for each member and 0 for each other, of the first packages.
@@ -22,8 +23,8 @@ fn write_members(set: &Members, packages: u8, out: &mut [u8])
     ensures first { (k : ℕ) → k < packages → slice_index out.new k ≡ (if seen set.now.places k then 1 else 0) }
     ensures rest { (k : ℕ) → packages ≤ k → slice_index out.new k ≡ slice_index out.old k }
 {
-    for k in 0..packages {
-        out[k as usize] = set.has(k) as u8;
+    for (k, mark) in out[..usize::from(packages)].iter_mut().enumerate() {
+        *mark = u8::from(set.has(k));
     }
 }
 
@@ -33,7 +34,7 @@ pub fn match_into<R: Reading, K: Kind>(
     grades: &R,
     plan: &mut [u16],
     set: &mut [u8],
-) -> Result<Answer, Refusal>
+) -> Result<Option<Planned>, Refusal>
     ensures { Answered K.above (valid_grades K.valid (R.meaning grades.now)) (R.meaning grades.now).packages (R.meaning grades.now).translators plan.old set.old plan.new set.new result }
 {
     let packages = grades.packages();
@@ -42,18 +43,17 @@ pub fn match_into<R: Reading, K: Kind>(
         return Err(Refusal::Space);
     }
     match best_plan::<R, K>(grades) {
-        Matched::Planned {
-            plan: best,
-            lowest,
-            tight,
-        } => {
-            best.write_into(plan)?;
-            write_members(&tight, packages, set);
-            Ok(Answer::Planned { plan: best, lowest })
+        Ok(best) => {
+            best.plan.write_into(plan)?;
+            write_members(&best.tight, packages, set);
+            Ok(Some(Planned {
+                plan: best.plan,
+                lowest: best.lowest,
+            }))
         }
-        Matched::Short { short } => {
+        Err(short) => {
             write_members(&short, packages, set);
-            Ok(Answer::Short)
+            Ok(None)
         }
     }
 }

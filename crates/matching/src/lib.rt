@@ -7,7 +7,7 @@ mod into;
 mod plan;
 mod theorems;
 
-pub use best::{Matched, best_plan};
-pub use into::{Answer, match_into};
+pub use best::{BestPlan, best_plan};
+pub use into::{Planned, match_into};
 pub use plan::Plan;
 pub use theorems::{one_best_plan, short_rules_out, tight_rules_out};

@@ -2,20 +2,14 @@
 ghost use Rattle.matching.specs.Theorems.{OneBestPlan, ShortRulesOut, TightRulesOut};
 
 // Two offices with the same grades draw the same plan and tell the same lowest grade.
-pub fn one_best_plan() -> u8
+pub fn one_best_plan()
     ensures { OneBestPlan }
-{
-    0
-}
+{}
 
-pub fn tight_rules_out() -> u8
+pub fn tight_rules_out()
     ensures { TightRulesOut }
-{
-    0
-}
+{}
 
-pub fn short_rules_out() -> u8
+pub fn short_rules_out()
     ensures { ShortRulesOut }
-{
-    0
-}
+{}

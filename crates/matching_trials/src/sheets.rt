@@ -2,7 +2,7 @@
 use super::sets::is_one_fewer;
 use books::{Book, Sizes};
 use grades::{Kind, Points, Ratings};
-use matching::{Answer, match_into};
+use matching::match_into;
 use refusals::Refusal;
 use std::process::Abort;
 use std::test::Fail;
@@ -29,15 +29,12 @@ fn has_plan<K: Kind>(
     let mut plan = [77; 4];
     let mut set = [9; 4];
     match match_into::<TableBook, K>(book, &mut plan, &mut set)? {
-        Answer::Planned {
-            plan: _,
-            lowest: told,
-        } => assert_eq!(rt; told, lowest),
-        Answer::Short => return Err(Fail::new("short")),
+        Some(planned) => assert_eq!(rt; planned.lowest, lowest),
+        None => return Err(Fail::new("short")),
     }
     assert!(rt; numbers.len() < 4);
-    for k in 0..numbers.len() {
-        assert_eq!(rt; plan[k], numbers[k]);
+    for (told, number) in plan.iter().zip(numbers) {
+        assert_eq!(rt; told, number);
     }
     assert_eq!(rt; plan[3], 77, "past the packages");
     assert_eq!(rt; set[3], 9, "past the packages");
@@ -52,8 +49,8 @@ fn has_no_plan<K: Kind>(rt: &impl Abort, book: &TableBook) -> Result<(), Fail> {
     let mut plan = [77; 4];
     let mut set = [9; 4];
     match match_into::<TableBook, K>(book, &mut plan, &mut set)? {
-        Answer::Planned { plan: _, lowest: _ } => return Err(Fail::new("a plan")),
-        Answer::Short => assert_eq!(rt; plan[0], 77, "the plan buffer is untouched"),
+        Some(_) => return Err(Fail::new("a plan")),
+        None => assert_eq!(rt; plan[0], 77, "the plan buffer is untouched"),
     }
     assert!(rt;
         is_one_fewer::<TableBook, K>(book, &set, None),

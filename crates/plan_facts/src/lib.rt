@@ -9,77 +9,57 @@ ghost use Rattle.plan_facts.specs.Sets.{Counts, EmptySetsAreNeither, JoinedByGra
 ghost use Rattle.plan_facts.specs.Single.{HigherGradeIsDrawn, LastTranslatorCounts, UngradedPackageIsShort};
 
 // Of any full plan by valid grades.
-pub fn one_lowest_grade() -> u8
+pub fn one_lowest_grade()
     ensures one { OneLowestGrade }
     ensures below { LowestGradeIsBelowTheOthers }
-{
-    0
-}
+{}
 
 // Nothing is computed here: the code that draws is proved to find this plan.
-pub fn best_plan_or_none() -> u8
+pub fn best_plan_or_none()
     ensures { BestPlanOrNone }
-{
-    0
-}
+{}
 
-pub fn too_few_translators() -> u8
+pub fn too_few_translators()
     ensures { TooFewTranslators }
-{
-    0
-}
+{}
 
-pub fn plans_name_translators() -> u8
+pub fn plans_name_translators()
     ensures { PlansNameTranslators }
-{
-    0
-}
+{}
 
-pub fn higher_grades_never_lower_the_bottleneck() -> u8
+pub fn higher_grades_never_lower_the_bottleneck()
     ensures { HigherGradesNeverLowerTheBottleneck }
-{
-    0
-}
+{}
 
 // Of sheets on which every pair has the same grade.
-pub fn even_sheets() -> u8
+pub fn even_sheets()
     ensures plan { EvenSheetsCountUp }
     ensures tight { TightSetsOfEvenSheets }
     ensures short { ShortEvenSheets }
-{
-    0
-}
+{}
 
 // Of sheets of one package.
-pub fn single_package() -> u8
+pub fn single_package()
     ensures last { LastTranslatorCounts }
     ensures higher { HigherGradeIsDrawn }
     ensures none { UngradedPackageIsShort }
-{
-    0
-}
+{}
 
 // Of counting, reaching, and the pairs that count.
-pub fn what_is_counted() -> u8
+pub fn what_is_counted()
     ensures counts { Counts }
     ensures reached { ReachedByAMember }
     ensures joined { JoinedByGrades }
     ensures ends { SetsEndAtTheLastPackage }
-{
-    0
-}
+{}
 
-pub fn tight_and_short_sets() -> u8
+pub fn tight_and_short_sets()
     ensures empty { EmptySetsAreNeither }
     ensures apart { TightSetsAreNotShort }
-{
-    0
-}
+{}
 
 // Of the codes of both kinds.
-pub fn codes_in_words() -> u8
+pub fn codes_in_words()
     ensures points { PointsInWords }
     ensures ratings { RatingsInWords }
-{
-    0
-}
+{}

@@ -5,14 +5,14 @@ ghost use Rattle.std.specs.Prelude.{◌≡◌};
 // The rule that the file breaks.
 #[derive(Clone, Copy, PartialEq, Eq, Debug)]
 pub enum Cause {
-    NotWhole,
-    Count,
-    Kind,
-    Sizes,
-    Place,
-    Code,
-    NotAfter,
-    LeftOver,
+    NotWhole = 1,
+    Count = 2,
+    Kind = 3,
+    Sizes = 4,
+    Place = 5,
+    Code = 6,
+    NotAfter = 7,
+    LeftOver = 8,
 }
 
 // The layer of the reader that holds the rule.
@@ -39,16 +39,7 @@ impl Cause {
     pub fn number(self) -> u8
         ensures { result ≡ cause_number self }
     {
-        match self {
-            Cause::NotWhole => 1,
-            Cause::Count => 2,
-            Cause::Kind => 3,
-            Cause::Sizes => 4,
-            Cause::Place => 5,
-            Cause::Code => 6,
-            Cause::NotAfter => 7,
-            Cause::LeftOver => 8,
-        }
+        self as u8
     }
 
     pub fn layer(self) -> Layer

@@ -4,6 +4,7 @@
 
 mod fault;
 mod refusal;
+mod words;
 
 pub use fault::{Cause, Fault, Layer};
 pub use refusal::Refusal;

@@ -21,6 +21,7 @@ pub enum Refusal {
 }
 
 impl Refusal {
+    // Written out, since an enum has numbers of its own only where no variant holds a value.
     pub fn number(self) -> u8
         ensures { result ≡ number_of self }
     {

@@ -1,3 +1,1 @@
-pub mod Again
 pub mod Faults
-pub mod Heads

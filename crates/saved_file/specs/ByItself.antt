@@ -1,22 +1,18 @@
 -- A file of which nothing is expected beforehand: its kind and sizes are those of its own record of
 -- section 1, which has to be of points or of ratings, with sizes within the limits of a book.
-use Rattle.std.specs.Prelude.{ℕ, Bool, cond, ◌||◌, List, Ok, Err, Result, ◌==◌}
+use Rattle.std.specs.Prelude.{ℕ, Bool, if◌then◌else◌, List, Ok, Err, Result, ◌==◌}
 use Rattle.books.specs.Limits.{within}
 use Rattle.file_format.specs.Layout.{sheet_in}
 use Rattle.file_format.specs.Rules.{Expected}
 use Rattle.file_format.specs.declared.records.SheetRecord.{SheetRecord}
+use Rattle.grades.specs.Names.{kind_number, known_kind}
 use Rattle.grades.specs.Points.{valid_points}
 use Rattle.grades.specs.Ratings.{valid_rating}
 use Rattle.refusals.specs.declared.fault.Fault.{Fault}
 use Rattle.saved_file.specs.declared.head.Head.{Head}
-use Rattle.saved_file.specs.declared.head.KindName.{KindName}
-use Rattle.saved_file.specs.declared.head.KindName.TheVariants.{OfPoints, OfRatings}
-
-abbrev pub known_kind : ℕ → Bool
-known_kind k = k == 1 || k == 2
 
 abbrev pub valid_in : ℕ → ℕ → Bool
-valid_in k code = cond (k == 1) (valid_points code) (valid_rating code)
+valid_in k code = if k == 1 then valid_points code else valid_rating code
 
 abbrev pub by_itself : List ℕ → Expected
 by_itself bs =
@@ -27,10 +23,6 @@ by_itself bs =
       translators = (sheet_in bs).translators;
       valid = valid_in (sheet_in bs).kind;
     }
-
-abbrev pub kind_number : KindName → ℕ
-kind_number OfPoints = 1
-kind_number OfRatings = 2
 
 -- what a head tells, as the record of section 1
 abbrev pub three_of : Head → SheetRecord

@@ -1,1 +1,3 @@
 pub mod ByItself
+pub mod Cursors
+pub mod Expecting

@@ -1,4 +1,7 @@
 // A file that was found right, and its records.
+ghost use Rattle.file_format.specs.Layout.{count_in};
+ghost use Rattle.std.specs.Prelude.{◌≡◌};
+
 mod reader;
 mod reading;
 
@@ -9,4 +12,5 @@ pub use reader::check_file;
 pub struct CheckedFile<'a> {
     file: &'a [u8],
     count: u16,
+    ghost counted: { count ≡ count_in file.now },
 }

@@ -1,10 +1,12 @@
 // A place in a lent file: the bytes before it have been read.
 ghost use Rattle.std.specs.Prelude.{◌≤◌, length};
 
+mod expected;
 mod heads;
 mod parts;
 mod reads;
-mod sections;
+
+pub use expected::Expected;
 
 #[derive(Drop)]
 pub struct Cursor<'a> {

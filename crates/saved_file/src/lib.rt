@@ -6,4 +6,5 @@ mod cursor;
 mod head;
 
 pub use checked::{CheckedFile, check_file};
-pub use head::{Head, KindName, check_by_itself, read_head};
+pub use grades::KindName;
+pub use head::{Head, check_by_itself, read_head};

@@ -1,23 +1,8 @@
 -- Bytes put into a buffer one after the other.
-use Rattle.std.proofs.Common.{◌≡◌, ℕ, suc, ◌+◌, ◌^◌, ◌<◌, ◌≤◌, List, [], ◌∷◌, ◌++◌, length, take, drop, set, Some, None, Option, sym, ap, ◌∙◌, subst, ⊎_elim, add-zero, arith}
+use Rattle.std.proofs.Common.{◌≡◌, ℕ, ◌+◌, ◌≤◌, List, [], ◌++◌, length, take, drop, Option, sym, ap, ◌∙◌, subst, ⊎_elim, add-zero, arith}
 use Rattle.saved_writer.specs.Written.{CodeFits, CodesFit, RowFits, put_at}
-use Rattle.std.proofs.lemmas.List.Edits.{sets-eq}
 use Rattle.std.proofs.lemmas.List.{append_assoc, drop_at, drop-drop, length-append, length-take-le, take-append-drop, take_at}
 use Rattle.std.proofs.lemmas.Bool.{cases_eq}
-
-pub six_set :
-    (l : List ℕ) (at a b c d e f : ℕ) → at + 6 ≤ length l
-    → set (set (set (set (set (set l at a) (at + 1) b) (at + 2) c) (at + 3) d) (at + 4) e) (at + 5) f
-    ≡ put_at l at (a ∷ b ∷ c ∷ d ∷ e ∷ f ∷ [])
-six_set l at a b c d e f h =
-    let q : at + 1 ≡ suc at = omega arith in
-    let r : at + 2 ≡ suc (suc at) = omega arith in
-    let s : at + 3 ≡ suc (suc (suc at)) = omega arith in
-    let u : at + 4 ≡ suc (suc (suc (suc at))) = omega arith in
-    let v : at + 5 ≡ suc (suc (suc (suc (suc at)))) = omega arith in
-    simp (q, r, s, u, v)
-    (sets-eq (a ∷ b ∷ c ∷ d ∷ e ∷ f ∷ []) l at h
-    ∙ append_assoc (take at l) (a ∷ b ∷ c ∷ d ∷ e ∷ f ∷ []) (drop (at + 6) l))
 
 pub put_none : (l : List ℕ) (at : ℕ) → l ≡ put_at l at []
 put_none l at = sym (take-append-drop at l) ∙ ap (λ n. take at l ++ drop n l) (sym (add-zero at))
@@ -43,23 +28,6 @@ put_put l o n xs ys e h =
         sym (drop-drop (length ys) n ((take o l ++ xs) ++ drop (o + length xs) l))
         ∙ ap (drop (length ys)) (drop_at (take o l ++ xs) (drop (o + length xs) l) n long)
         ∙ drop-drop (length ys) (o + length xs) l ∙ ap (λ m. drop m l) (omega (arith, length-append xs ys))
-
--- bytes put at the start of a buffer
-pub put_first : (l xs : List ℕ) → put_at l 0 xs ≡ xs ++ drop (length xs) l
-put_first l xs = ap (λ n. xs ++ drop n l) (omega arith)
-
--- a function of two numbers at the numbers that they are
-pub at_pair :
-    (f : ℕ → ℕ → Option ℕ) (a b i j : ℕ) (v : Option ℕ) → a ≡ i → b ≡ j → v ≡ f a b → f i j ≡ v
-at_pair f a b i j v p q e = sym (e ∙ ap (λ x. f x b) p ∙ ap (f i) q)
-
-pub code_of_some : (o : Option ℕ) (c : ℕ) → o ≡ Some c → c < 2 ^ 32 → CodeFits o
-code_of_some o c e l code h =
-    let k : c ≡ code = cc in
-    subst (λ x. x < 2 ^ 32) k l
-
-pub code_of_none : (o : Option ℕ) → o ≡ None → CodeFits o
-code_of_none o e code h = absurd (let z : ◌≡◌ {A = ℕ} 0 1 = cc in omega arith)
 
 pub row_fits_none : (f : ℕ → Option ℕ) → RowFits f 0
 row_fits_none f j l m = absurd (omega arith)

@@ -1,5 +1,5 @@
 -- A buffer too short for a file, and one with room for it.
-use Rattle.std.proofs.Common.{◌≡◌, ℕ, ◌+◌, ◌*◌, ◌^◌, ◌<◌, ◌≤◌, Bool, leb, List, ◌++◌, length, drop, Some, Ok, Err, sym, refl, ap, ◌∙◌, ⊎_elim, arith}
+use Rattle.std.proofs.Common.{◌≡◌, ℕ, ◌+◌, ◌*◌, ◌^◌, ◌<◌, ◌≤◌, Bool, nat_le, List, ◌++◌, length, drop, Some, Ok, Err, sym, ap, ◌∙◌, ⊎_elim, arith}
 use Rattle.books.specs.Limits.{inside}
 use Rattle.books.specs.Meaning.{Meaning, Sound, count}
 use Rattle.books.proofs.Inside.{lies}
@@ -7,8 +7,7 @@ use Rattle.file_format.proofs.RoundTrip.{file_is_right}
 use Rattle.file_format.specs.FileOf.{head_bytes, grades_bytes}
 use Rattle.refusals.specs.declared.refusal.Refusal.TheVariants.{Space}
 use Rattle.saved_writer.proofs.Lengths.{length_grades}
-use Rattle.saved_writer.proofs.Places.{put_first, put_put}
-use Rattle.saved_writer.specs.Written.{CodesFit, ReadsBack, file_of_meaning, put_at, write_after, write_answer}
+use Rattle.saved_writer.specs.Written.{CodesFit, ReadsBack, file_of_meaning, write_after, write_answer}
 use Rattle.std.proofs.lemmas.List.{length-append}
 use Rattle.std.proofs.lemmas.Bool.{cases_Bool, cond-false, cond-true, le-leb, lt-leb}
 
@@ -24,33 +23,18 @@ pub too_short :
 too_short number m n buffer e h =
     let f = file_of_meaning number m in
     let k = lt-leb (length f) (length buffer) (omega (arith, e, length_file number m)) in (
-      sym (cond-false (leb (length f) (length buffer)) (Ok (length f)) (Err Space) k),
-      sym (cond-false (leb (length f) (length buffer)) (f ++ drop (length f) buffer) buffer k),
+      sym (cond-false (nat_le (length f) (length buffer)) (Ok (length f)) (Err Space) k),
+      sym (cond-false (nat_le (length f) (length buffer)) (f ++ drop (length f) buffer) buffer k),
     )
 
-module _ (number : ℕ) (m : Meaning) (buffer : List ℕ) where
-  pub room :
-      (n : ℕ) → n ≡ count m → 7 + 6 * n ≤ length buffer
-      → Ok (7 + 6 * n) ≡ write_answer (file_of_meaning number m) buffer
-  room n e h =
-      let f = file_of_meaning number m in
-      let k = le-leb (length f) (length buffer) (omega (arith, e, length_file number m)) in
-      let q : 7 + 6 * n ≡ length f = omega (arith, e, length_file number m) in
-      ap Ok q ∙ sym (cond-true (leb (length f) (length buffer)) (Ok (length f)) (Err Space) k)
-
-  pub filled :
-      (n k p t c : ℕ) (headed written : List ℕ) → n ≡ count m → 7 + 6 * n ≤ length buffer → k ≡ number
-      → p ≡ m.packages → t ≡ m.translators → c ≡ count m → headed ≡ put_at buffer 0 (head_bytes k p t c)
-      → written ≡ put_at headed 7 (grades_bytes m.grade m.packages m.translators)
-      → written ≡ write_after (file_of_meaning number m) buffer
-  filled n k p t c headed written e h a b d i u v =
-      let f = file_of_meaning number m in
-      let head = head_bytes number m.packages m.translators (count m) in
-      let gs = grades_bytes m.grade m.packages m.translators in
-      let w = le-leb (length f) (length buffer) (omega (arith, e, length_file number m)) in
-      let hs : head_bytes k p t c ≡ head_bytes number m.packages m.translators (count m) = cc in
-      v ∙ ap (λ ys. put_at ys 7 gs) (u ∙ ap (put_at buffer 0) hs) ∙ put_put buffer 0 7 head gs refl (omega arith)
-      ∙ put_first buffer f ∙ sym (cond-true (leb (length f) (length buffer)) (f ++ drop (length f) buffer) buffer w)
+pub room :
+    (number : ℕ) (m : Meaning) (buffer : List ℕ) (n : ℕ) → n ≡ count m → 7 + 6 * n ≤ length buffer
+    → Ok (7 + 6 * n) ≡ write_answer (file_of_meaning number m) buffer
+room number m buffer n e h =
+    let f = file_of_meaning number m in
+    let k = le-leb (length f) (length buffer) (omega (arith, e, length_file number m)) in
+    let q : 7 + 6 * n ≡ length f = omega (arith, e, length_file number m) in
+    ap Ok q ∙ sym (cond-true (nat_le (length f) (length buffer)) (Ok (length f)) (Err Space) k)
 
 pub reads_back :
     (number : ℕ) (valid : ℕ → Bool) (m : Meaning) → Sound m → CodesFit m.grade m.packages m.translators

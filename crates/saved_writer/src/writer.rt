@@ -5,36 +5,33 @@ ghost use Rattle.file_format.specs.FileOf.{grade_bytes, grades_bytes, head_bytes
 ghost use Rattle.saved_writer.specs.Written.{CodeFits, CodesFit, ReadsBack, RowFits, file_of_meaning, put_at, write_after, write_answer};
 
 use books::{Reading, standing_grades};
+use file_format::{GradeRecord, SheetRecord};
 use grades::Kind;
 use refusals::Refusal;
 
 // The six bytes of one grade.
-fn write_grade(out: &mut [u8], at: usize, pkg: u8, translator: u8, code: u32)
+fn write_grade(out: &mut [u8], at: usize, found: GradeRecord)
     requires { at + 6 ≤ length out.old }
-    ensures { out.new ≡ put_at out.old at (grade_bytes pkg translator code) }
+    ensures { out.new ≡ put_at out.old at (grade_bytes found.pkg found.translator found.code) }
 {
-    let [c0, c1, c2, c3] = code.to_le_bytes();
-    out[at] = pkg;
-    out[at + 1] = translator;
-    out[at + 2] = c0;
-    out[at + 3] = c1;
-    out[at + 4] = c2;
-    out[at + 5] = c3;
+    out[at..at + 6].copy_from_slice(&<[u8; 6]>::from(found));
 }
 
 // The counts and the record of section 1.
-fn write_head(out: &mut [u8], kind: u8, packages: u8, translators: u8, count: u16)
+fn write_head(out: &mut [u8], sheet: SheetRecord, count: u16)
     requires { 7 ≤ length out.old }
-    ensures { out.new ≡ put_at out.old 0 (head_bytes kind packages translators count) }
+    ensures { out.new ≡ put_at out.old 0 (head_bytes sheet.kind sheet.packages sheet.translators count) }
 {
     let [low, high] = count.to_le_bytes();
-    out[0] = 1;
-    out[1] = 0;
-    out[2] = kind;
-    out[3] = packages;
-    out[4] = translators;
-    out[5] = low;
-    out[6] = high;
+    out[..7].copy_from_slice(&[
+        1,
+        0,
+        sheet.kind,
+        sheet.packages,
+        sheet.translators,
+        low,
+        high,
+    ]);
 }
 
 // The record of one pair, if it has a grade; answers where it ends.
@@ -46,7 +43,12 @@ fn write_pair<R: Reading>(book: &R, pkg: u8, translator: u8, out: &mut [u8], at:
 {
     match book.grade_of(u32::from(pkg), u32::from(translator)) {
         Some(code) => {
-            write_grade(out, at, pkg, translator, code);
+            let found = GradeRecord {
+                pkg,
+                translator,
+                code,
+            };
+            write_grade(out, at, found);
             at + 6
         }
         None => at,
@@ -90,13 +92,12 @@ pub fn write_file<K: Kind, R: Reading>(book: &R, out: &mut [u8]) -> Result<usize
     if out.len() < length {
         return Err(Refusal::Space);
     }
-    write_head(
-        out,
-        K::NUMBER,
-        book.packages(),
-        book.translators(),
-        count,
-    );
+    let sheet = SheetRecord {
+        kind: K::NUMBER,
+        packages: book.packages(),
+        translators: book.translators(),
+    };
+    write_head(out, sheet, count);
     write_rows(book, out);
     Ok(length)
 }

@@ -1,22 +1,23 @@
 // The cells of a table: 48 rows of 64 codes, where 0 means no grade.
-ghost use Rattle.std.specs.Prelude.{◌≡◌, ◌<◌, ◌≤◌, length, replicate, slice_index, slice_set};
-ghost use Rattle.table_book.specs.Cells.{place};
+ghost use Rattle.std.specs.Prelude.{◌≡◌, ◌<◌, length, replicate, slice_index, slice_set};
+ghost use Rattle.table_book.specs.Cells.{place, grade_in};
+
+use books::Pair;
 
 const ROW: u32 = 64;
 
 #[derive(Drop)]
 pub(crate) struct Cells {
     codes: [u32; 3072],
+    ghost whole: { length codes ≡ 3072 },
 }
 
 // Where the code of a pair stands.
-fn place_of(pkg: u32, translator: u32) -> usize
-    requires row { (1 ≤ pkg) × (pkg ≤ 48) }
-    requires column { (1 ≤ translator) × (translator ≤ 64) }
-    ensures place { result ≡ place pkg translator }
+fn place_of(pair: Pair) -> usize
+    ensures place { result ≡ place pair.pkg pair.translator }
     ensures below { result < 3072 }
 {
-    ((pkg - 1) * ROW + (translator - 1)) as usize
+    ((pair.pkg - 1) * ROW + (pair.translator - 1)) as usize
 }
 
 impl Cells {
@@ -29,31 +30,20 @@ impl Cells {
         }
     }
 
-    pub fn code_at(&self, pkg: u32, translator: u32) -> u32
-        requires row { (1 ≤ pkg) × (pkg ≤ 48) }
-        requires column { (1 ≤ translator) × (translator ≤ 64) }
-        ensures value { result ≡ slice_index self.now.codes (place pkg translator) }
-        ensures whole { length self.now.codes ≡ 3072 }
+    pub fn grade_at(&self, pair: Pair) -> Option<u32>
+        ensures { result ≡ grade_in (slice_index self.now.codes (place pair.pkg pair.translator)) }
     {
-        self.codes[place_of(pkg, translator)]
+        match self.codes[place_of(pair)] {
+            0 => None,
+            code => Some(code),
+        }
     }
 
-    pub fn write(&mut self, pkg: u32, translator: u32, code: u32)
-        requires row { (1 ≤ pkg) × (pkg ≤ 48) }
-        requires column { (1 ≤ translator) × (translator ≤ 64) }
-        ensures after { self.new.codes ≡ slice_set self.old.codes (place pkg translator) code }
-        ensures whole { length self.old.codes ≡ 3072 }
+    // Code 0 removes the grade.
+    pub fn write(&mut self, pair: Pair, code: u32)
+        ensures { self.new.codes ≡ slice_set self.old.codes (place pair.pkg pair.translator) code }
     {
-        let at = place_of(pkg, translator);
+        let at = place_of(pair);
         self.codes[at] = code;
-    }
-
-    pub fn clear(&mut self, pkg: u32, translator: u32)
-        requires row { (1 ≤ pkg) × (pkg ≤ 48) }
-        requires column { (1 ≤ translator) × (translator ≤ 64) }
-        ensures after { self.new.codes ≡ slice_set self.old.codes (place pkg translator) 0 }
-        ensures whole { length self.old.codes ≡ 3072 }
-    {
-        self.write(pkg, translator, 0);
     }
 }

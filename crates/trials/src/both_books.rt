@@ -24,16 +24,10 @@ fn sizes_at_their_limits(rt: HostRuntime) {
 }
 
 // Gives each of the pairs of the first `packages` packages a code of its own.
-fn fill<B: Book>(book: &mut B, packages: u32) -> Result<(), Refusal> {
-    for pkg in 0..packages {
-        for translator in 0..64u32 {
-            book.put(
-                pkg.wrapping_add(1),
-                translator + 1,
-                pkg.wrapping_mul(64)
-                    .wrapping_add(translator)
-                    .wrapping_add(1),
-            )?;
+fn fill<B: Book>(book: &mut B, packages: u8) -> Result<(), Refusal> {
+    for pkg in 1..=u32::from(packages) {
+        for translator in 1..=64 {
+            book.put(pkg, translator, (pkg - 1) * 64 + translator)?;
         }
     }
     Ok(())
@@ -78,13 +72,10 @@ fn table_book_takes_every_pair(rt: HostRuntime) -> Result<(), Fail> {
 fn a_book_with_a_grade_is_handed_back(rt: HostRuntime) -> Result<(), Fail> {
     let mut book = TableBook::new(Sizes::check(48, 64)?);
     book.put(48, 64, 1)?;
-    match pass_as_empty(book) {
-        Ok(_) => Err(Fail::new("passed with a grade")),
-        Err(back) => {
-            let (refusal, book) = back;
-            assert_eq!(rt; refusal, Refusal::NotEmpty);
-            assert_eq!(rt; book.grade_of(48, 64), Some(1));
-            Ok(())
-        }
-    }
+    let Err((refusal, book)) = pass_as_empty(book) else {
+        return Err(Fail::new("passed with a grade"));
+    };
+    assert_eq!(rt; refusal, Refusal::NotEmpty);
+    assert_eq!(rt; book.grade_of(48, 64), Some(1));
+    Ok(())
 }

@@ -1,8 +1,8 @@
 // Codes at the edges of the two kinds, and their order.
 use grades::{Kind, Points, Ratings};
 
-fn rating(class: u32, days: u32) -> u32 {
-    class.wrapping_add(days.wrapping_mul(256))
+fn rating(class: u8, days: u16) -> u32 {
+    u32::from(class) + 256 * u32::from(days)
 }
 
 #[test]

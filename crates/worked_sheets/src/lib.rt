@@ -3,8 +3,6 @@
 
 ghost use Rattle.worked_sheets.specs.Right.{EverySheetGivesItsAnswer};
 
-pub fn worked_sheets_hold() -> u8
+pub fn worked_sheets_hold()
     ensures { EverySheetGivesItsAnswer }
-{
-    0
-}
+{}

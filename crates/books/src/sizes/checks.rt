@@ -1,11 +1,10 @@
 // How sizes come to be, and what they tell.
-ghost use Rattle.books.specs.Limits.{within, inside};
+ghost use Rattle.books.specs.Limits.{inside};
 ghost use Rattle.books.specs.Checked.{sizes_of, checked};
-ghost use Rattle.std.specs.Option.{option_map};
-ghost use Rattle.refusals.specs.declared.refusal.Refusal.TheVariants.{Size};
-ghost use Rattle.std.specs.Prelude.{◌≡◌, true, false, MatchResult};
+ghost use Rattle.std.specs.Prelude.{◌≡◌, is_some, IfSome};
 
 use super::Sizes;
+use crate::Pair;
 use refusals::Refusal;
 
 const MOST_PACKAGES: u32 = 48;
@@ -16,16 +15,16 @@ impl Sizes {
     pub fn check(packages: u32, translators: u32) -> Result<Sizes, Refusal>
         ensures { checked result ≡ sizes_of packages translators }
     {
-        if packages < 1 || packages > MOST_PACKAGES {
-            return Err(Refusal::Size);
+        if (1..=MOST_PACKAGES).contains(&packages)
+            && (1..=MOST_TRANSLATORS).contains(&translators)
+        {
+            Ok(Sizes {
+                packages: packages as u8,
+                translators: translators as u8,
+            })
+        } else {
+            Err(Refusal::Size)
         }
-        if translators < 1 || translators > MOST_TRANSLATORS {
-            return Err(Refusal::Size);
-        }
-        Ok(Sizes {
-            packages: packages as u8,
-            translators: translators as u8,
-        })
     }
 
     pub fn packages(&self) -> u8
@@ -44,9 +43,19 @@ impl Sizes {
     pub fn holds(&self, pkg: u32, translator: u32) -> bool
         ensures { result ≡ inside self.now.packages self.now.translators pkg translator }
     {
-        1 <= pkg
-            && pkg <= u32::from(self.packages)
-            && 1 <= translator
-            && translator <= u32::from(self.translators)
+        (1..=u32::from(self.packages)).contains(&pkg)
+            && (1..=u32::from(self.translators)).contains(&translator)
+    }
+
+    // The pair that both numbers name, where both are there.
+    pub fn pair(&self, pkg: u32, translator: u32) -> Option<Pair>
+        ensures there { is_some result ≡ inside self.now.packages self.now.translators pkg translator }
+        ensures named { IfSome result (λ pair. (pair.pkg ≡ pkg) × (pair.translator ≡ translator)) }
+    {
+        if self.holds(pkg, translator) {
+            Some(Pair { pkg, translator })
+        } else {
+            None
+        }
     }
 }

@@ -1,18 +1,22 @@
 // Which pairs of a table count: those with the grade of the floor, or one above it.
 ghost use Rattle.bottleneck.specs.Codes.{code_at, table_grades};
 ghost use Rattle.bottleneck.specs.Floors.{from_floor};
-ghost use Rattle.std.specs.Prelude.{◌≡◌};
+ghost use Rattle.std.specs.Prelude.{◌≡◌, ℕ, ◌+◌, ◌<◌, ◌≤◌, Some, true, length, slice_index};
 ghost use Rattle.std.proofs.Common.{rules};
 
 use super::Table;
-use augmenting::Pattern;
+use augmenting::{MOST_PACKAGES, MOST_TRANSLATORS, Pattern};
 use grades::Kind;
 
-const MOST_PACKAGES: u8 = 48;
+// Without a floor no pair counts.
+#[derive(Drop)]
+pub struct AtFloor<'t, K: Kind> {
+    pub(crate) table: &'t Table<K>,
+    pub(crate) floor: Option<u32>,
+    ghost valid: { (code : ℕ) → floor ≡ Some code → K.valid code ≡ true },
+}
 
-const MOST_TRANSLATORS: u8 = 64;
-
-impl<K> Table<K> {
+impl<K: Kind> Table<K> {
     pub(crate) fn code(&self, pkg: u8, translator: u8) -> u32
         ensures { result ≡ code_at self.now.codes pkg translator }
     {
@@ -22,23 +26,33 @@ impl<K> Table<K> {
             0
         }
     }
+
+    // The codes of a package, one for each translator.
+    pub(crate) fn row(&self, pkg: u8) -> &[u32]
+        requires { pkg ≤ 48 }
+        ensures long { length result.now ≡ self.now.translators }
+        ensures codes { (j : ℕ) → j < self.now.translators → slice_index result.now j ≡ code_at self.now.codes pkg (j + 1) }
+    {
+        let start = 65 * pkg as usize + 1;
+        &self.codes[start..start + self.translators as usize]
+    }
 }
 
-impl<K: Kind> Pattern for Table<K> {
-    ghost joins = { λ s k j. from_floor K.above s.floor (table_grades s.codes k j) };
+impl<'t, K: Kind> Pattern for AtFloor<'t, K> {
+    ghost joins = { λ s k j. from_floor K.above s.floor (table_grades s.table.now.codes k j) };
 
-    ghost translators = { λ s. s.translators };
+    ghost translators = { λ s. s.table.now.translators };
 
     ghost few = { Prim.search rules };
 
     fn translator_count(&self) -> u8 {
-        self.translators
+        self.table.translators
     }
 
     fn may_join(&self, pkg: u8, translator: u8) -> bool {
         match self.floor {
             Some(floor) => {
-                let code = self.code(pkg, translator);
+                let code = self.table.code(pkg, translator);
                 code != 0 && !K::is_above(floor, code)
             }
             None => false,

@@ -1,5 +1,5 @@
 // Reading a book into a table.
-ghost use Rattle.std.specs.Prelude.{◌≡◌, ℕ, ◌+◌, ◌*◌, ◌<◌, ◌≤◌, None, slice_index};
+ghost use Rattle.std.specs.Prelude.{◌≡◌, ℕ, ◌+◌, ◌*◌, ◌<◌, ◌≤◌, slice_index};
 ghost use Rattle.bottleneck.specs.Codes.{table_grades, grade_of_code};
 ghost use Rattle.bottleneck.specs.Grades.{valid_grades};
 
@@ -26,27 +26,22 @@ fn read_row<R: Reading, K: Kind>(grades: &R, pkg: u8, codes: &mut [u32; 3185])
     ensures before { (x : ℕ) → x < 65 * pkg → slice_index codes.new x ≡ slice_index codes.old x }
     ensures after { (x : ℕ) → 65 * pkg + 64 < x → slice_index codes.new x ≡ 0 }
 {
-    for j in 0..grades.translators() {
-        codes[65 * pkg as usize + (j + 1) as usize] = valid_code::<R, K>(grades, pkg, j + 1);
+    let start = 65 * pkg as usize + 1;
+    let end = start + grades.translators() as usize;
+    for (j, code) in codes[start..end].iter_mut().enumerate() {
+        *code = valid_code::<R, K>(grades, pkg, j as u8 + 1);
     }
 }
 
-fn no_codes() -> [u32; 3185]
-    ensures { (x : ℕ) → slice_index result x ≡ 0 }
-{
-    [0; 3185]
-}
-
 impl<K: Kind> Table<K> {
-    // The valid grades of a book, and no floor yet.
+    // The valid grades of a book.
     pub fn read<R: Reading>(grades: &R) -> Table<K>
         ensures sizes { (result.packages ≡ (R.meaning grades.now).packages) × (result.translators ≡ (R.meaning grades.now).translators) }
-        ensures floor { result.floor ≡ None }
         ensures grades { (k j : ℕ) → table_grades result.codes k j ≡ valid_grades K.valid (R.meaning grades.now) k j }
     {
         let packages = grades.packages();
         let translators = grades.translators();
-        let mut codes = no_codes();
+        let mut codes = [0; 3185];
         for k in 0..packages {
             read_row::<R, K>(grades, k + 1, &mut codes);
         }
@@ -54,7 +49,6 @@ impl<K: Kind> Table<K> {
             codes,
             packages,
             translators,
-            floor: None,
             kind: PhantomData,
         }
     }

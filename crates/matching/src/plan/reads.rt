@@ -14,15 +14,19 @@ impl Plan {
         self.packages as usize
     }
 
+    // Its translators in the order of the packages.
+    fn numbers(&self) -> &[u16]
+        ensures { result.now ≡ numbers_of self.now }
+    {
+        &self.numbers[..self.len()]
+    }
+
     // The translator of a package, both by number, or none where there is no such package.
     pub fn translator_of(&self, pkg: u32) -> Option<u16>
         ensures { result ≡ number_at (numbers_of self.now) pkg }
     {
-        if 1 <= pkg && pkg <= u32::from(self.packages) {
-            Some(self.numbers[pkg as usize - 1])
-        } else {
-            None
-        }
+        let place = pkg.checked_sub(1)?;
+        self.numbers().get(place as usize).copied()
     }
 
     // Writes its translators into the first places of a buffer, if there is room for all.
@@ -30,13 +34,10 @@ impl Plan {
         ensures answer { result ≡ room_for (numbers_of self.now) out.old }
         ensures after { out.new ≡ written (numbers_of self.now) out.old }
     {
-        let packages = self.packages as usize;
-        if out.len() < packages {
+        if out.len() < self.len() {
             return Err(Refusal::Space);
         }
-        for k in 0..packages {
-            out[k] = self.numbers[k];
-        }
+        out[..self.len()].copy_from_slice(self.numbers());
         Ok(())
     }
 }

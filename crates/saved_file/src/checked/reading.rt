@@ -9,14 +9,10 @@ use file_format::{GradeRecord, SheetRecord};
 fn front_record(bytes: &[u8]) -> Option<GradeRecord>
     ensures { result ≡ (if nat_le 6 (length bytes.now) then Some (six_bytes bytes.now) else None) }
 {
-    let [pkg, translator, c0, c1, c2, c3, ..] = bytes else {
+    let &[pkg, translator, c0, c1, c2, c3, ..] = bytes else {
         return None;
     };
-    Some(GradeRecord {
-        pkg: *pkg,
-        translator: *translator,
-        code: u32::from_le_bytes([*c0, *c1, *c2, *c3]),
-    })
+    Some(GradeRecord::from([pkg, translator, c0, c1, c2, c3]))
 }
 
 impl<'a> CheckedFile<'a> {
@@ -31,27 +27,20 @@ impl<'a> CheckedFile<'a> {
     pub fn sheet_record(&self) -> Option<SheetRecord>
         ensures { result ≡ (if whole self.now.file.now 2 3 then Some (sheet_in self.now.file.now) else None) }
     {
-        let [_, _, kind, packages, translators, ..] = self.file else {
+        let &[_, _, kind, packages, translators, ..] = self.file else {
             return None;
         };
-        Some(SheetRecord {
-            kind: *kind,
-            packages: *packages,
-            translators: *translators,
-        })
+        Some(SheetRecord::from([kind, packages, translators]))
     }
 
     // The grade record of a number, counted from 1, where there is one.
     pub fn record(&self, number: u16) -> Option<GradeRecord>
         ensures { result ≡ (if nat_le 1 number && nat_le number self.now.count && whole self.now.file.now (start_of number) 6 then Some (record_in self.now.file.now number) else None) }
     {
-        if number < 1 || number > self.count {
+        if !(1..=self.count).contains(&number) {
             return None;
         }
         let start = 1 + 6 * usize::from(number);
-        if start > self.file.len() {
-            return None;
-        }
-        front_record(&self.file[start..])
+        front_record(self.file.get(start..)?)
     }
 }

@@ -1,27 +1,14 @@
 // The record of section 1 of a file of which nothing is expected.
 ghost use Rattle.file_format.specs.Layout.{sheet_in};
 ghost use Rattle.file_format.specs.Rules.{answer, first_broken, sheet_rules};
-ghost use Rattle.saved_file.specs.ByItself.{by_itself, kind_number, known_kind, told_three};
-ghost use Rattle.std.specs.Option.{option_map};
-ghost use Rattle.std.specs.Prelude.{◌≡◌, if◌then◌else◌, Some, None};
+ghost use Rattle.saved_file.specs.ByItself.{by_itself, told_three};
+ghost use Rattle.std.specs.Prelude.{◌≡◌};
 
 use super::Cursor;
-use crate::head::{Head, KindName};
+use crate::head::Head;
 use books::Sizes;
-use grades::{Kind, Points, Ratings};
+use grades::KindName;
 use refusals::{Cause, Fault};
-
-fn kind_named(number: u8) -> Option<KindName>
-    ensures { option_map kind_number result ≡ (if known_kind number then Some number else None) }
-{
-    if number == Points::NUMBER {
-        return Some(KindName::OfPoints);
-    }
-    if number == Ratings::NUMBER {
-        return Some(KindName::OfRatings);
-    }
-    None
-}
 
 impl<'a> Cursor<'a> {
     // The record of section 1, of a kind that is there and sizes that a book may have.
@@ -30,7 +17,7 @@ impl<'a> Cursor<'a> {
         ensures { told_three result ≡ answer (first_broken (sheet_rules (by_itself self.old.file.now) self.old.file.now)) 1 1 2 (sheet_in self.old.file.now) }
     {
         let found = self.sheet_record()?;
-        let Some(kind) = kind_named(found.kind) else {
+        let Ok(kind) = KindName::try_from(found.kind) else {
             return Err(Fault::of(Cause::Kind, 1, 1, 2));
         };
         let Ok(sizes) = Sizes::check(u32::from(found.packages), u32::from(found.translators)) else {

@@ -1,21 +1,20 @@
 // Checking a file of which nothing is expected beforehand.
-ghost use Rattle.file_format.specs.Layout.{count_in};
 ghost use Rattle.file_format.specs.Rules.{Faulty, Right};
 ghost use Rattle.saved_file.specs.ByItself.{by_itself};
 ghost use Rattle.std.specs.Prelude.{◌≡◌, MatchResult};
 
-use super::{KindName, read_head};
+use super::read_head;
 use crate::checked::{CheckedFile, check_file};
-use grades::{Points, Ratings};
+use grades::{KindName, Points, Ratings};
 use refusals::Fault;
 
 // Checks a file against the kind and the sizes that it names itself.
 pub fn check_by_itself<'a>(file: &'a [u8]) -> Result<CheckedFile<'a>, Fault>
-    ensures { MatchResult result (λ f. (f.file.now ≡ file.now) × (f.count ≡ count_in file.now) × Right (by_itself file.now) file.now) (λ fault. Faulty (by_itself file.now) file.now fault) }
+    ensures { MatchResult result (λ f. (f.file.now ≡ file.now) × Right (by_itself file.now) file.now) (λ fault. Faulty (by_itself file.now) file.now fault) }
 {
     let head = read_head(file)?;
     match head.kind {
-        KindName::OfPoints => check_file::<Points>(file, head.sizes),
-        KindName::OfRatings => check_file::<Ratings>(file, head.sizes),
+        KindName::Points => check_file::<Points>(file, head.sizes),
+        KindName::Ratings => check_file::<Ratings>(file, head.sizes),
     }
 }

@@ -14,6 +14,5 @@ pub fn read_head(file: &[u8]) -> Result<Head, Fault>
 {
     let mut cursor = Cursor::new(file);
     cursor.first_count()?;
-    let head = cursor.known_sheet_record()?;
-    Ok(head)
+    cursor.known_sheet_record()
 }

@@ -7,22 +7,22 @@ use Rattle.matching.proofs.into.match_into.Goals as goal
 use Rattle.matching.specs.Answers.{member}
 use Rattle.matching.specs.Written.{numbers_of}
 
-pub returns-in_ok-write_into-in-Planned : goal.returns-in_ok-write_into-in-Planned
-returns-in_ok-write_into-in-Planned g c =
+pub returns-in_ok-write_into-in-Ok : goal.returns-in_ok-write_into-in-Ok
+returns-in_ok-write_into-in-Ok g c =
     let above = g.K.Kind.above in
     let m = g.R.Reading.meaning c.args.grades.now in
     let G = valid_grades g.K.Kind.valid m in
     let p = m.packages in
     let t = m.translators in
     let e = c.packages-packages.ensures in
-    let lowest = c.in-Planned.lowest in
-    let s = c.in-Planned.tight.places in
-    let xs = numbers_of c.in-Planned.best in
+    let lowest = c.in-Ok.best.lowest in
+    let s = c.in-Ok.best.tight.places in
+    let xs = numbers_of c.in-Ok.best.plan in
     let plan = c.args.plan.now in
     let set = c.args.set.now in
     let plan' = c.write_into.new.out in
     let set' = c.write_members.new.out in
-    let right = c.in-Planned.ensures in
+    let right = c.in-Ok.ensures in
     let long = right.0.full.long in
     let a : p ≤ length plan = omega (arith, e) in
     let b : p ≤ length set = omega (arith, e) in
@@ -36,22 +36,22 @@ returns-in_ok-write_into-in-Planned g c =
       marks = marks_written s p set set' c.write_members.auto.out first (λ k l. c.write_members.ensures.rest k (omega (arith, l, e)));
     }
 
-pub returns-in-Short : goal.returns-in-Short
-returns-in-Short g c =
+pub returns-in-Err : goal.returns-in-Err
+returns-in-Err g c =
     let m = g.R.Reading.meaning c.args.grades.now in
     let G = valid_grades g.K.Kind.valid m in
     let p = m.packages in
     let t = m.translators in
     let e = c.packages-packages.ensures in
-    let s = c.in-Short.short.places in
+    let s = c.in-Err.short.places in
     let set = c.args.set.now in
-    let set' = c.write_members-in-Short.new.out in
-    let right = c.in-Short.ensures in
-    let first : (k : ℕ) → k < p → get_or set' k 0 ≡ cond (seen s k) 1 0 = λ k l. c.write_members-in-Short.ensures.first k (omega (arith, l, e)) in
+    let set' = c.write_members-in-Err.new.out in
+    let right = c.in-Err.ensures in
+    let first : (k : ℕ) → k < p → get_or set' k 0 ≡ cond (seen s k) 1 0 = λ k l. c.write_members-in-Err.ensures.first k (omega (arith, l, e)) in
     record {
       room = (omega (arith, e), omega (arith, e));
       none = right.0;
       same = refl;
       short = same_members (graded G) p t (seen s) (member set') (members_written s p set' first) right.1;
-      marks = marks_written s p set set' c.write_members-in-Short.auto.out first (λ k l. c.write_members-in-Short.ensures.rest k (omega (arith, l, e)));
+      marks = marks_written s p set set' c.write_members-in-Err.auto.out first (λ k l. c.write_members-in-Err.ensures.rest k (omega (arith, l, e)));
     }

@@ -2,9 +2,8 @@ use Rattle.std.proofs.Common.{◌≡◌, ℕ, ◌+◌, ◌<◌, true, ◌⊎◌,
 use Rattle.augmenting.proofs.members.Members.owners_and.Given as goal
 use Rattle.augmenting.specs.Owners.{seen}
 
-abbrev pub invariant-loop-j : goal.invariant-loop-j
-invariant-loop-j l =
-    (length l.places ≡ 48)
-    × ((k : ℕ) → k + 1 ≡ l.pkg → k < 48 → seen l.places k ≡ true)
-    × ((j k : ℕ) → j < l.j → seen l.visited j ≡ true → get_or l.owner j 0 ≡ k + 1 → k < 48 → seen l.places k ≡ true)
-    × ((k : ℕ) → seen l.places k ≡ true → (k + 1 ≡ l.pkg) ⊎ ((j : ℕ) × (seen l.visited j ≡ true) × (get_or l.owner j 0 ≡ k + 1)))
+abbrev pub invariant-loop-owner : goal.invariant-loop-owner
+invariant-loop-owner l =
+    ((k : ℕ) → k + 1 ≡ l.pkg → k < 48 → seen l.set.places k ≡ true)
+    × ((j k : ℕ) → j < length l.yielded → seen l.visited j ≡ true → get_or l.owners.places j 0 ≡ k + 1 → k < 48 → seen l.set.places k ≡ true)
+    × ((k : ℕ) → seen l.set.places k ≡ true → (k + 1 ≡ l.pkg) ⊎ ((j : ℕ) × (seen l.visited j ≡ true) × (get_or l.owners.places j 0 ≡ k + 1)))

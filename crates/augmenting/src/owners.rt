@@ -1,0 +1,44 @@
+// Who has whom, while packages get translators one after another.
+ghost use Rattle.std.specs.Prelude.{◌≡◌, ℕ, ◌<◌, false, true, length, ◌≢◌, slice_index, map, nat_lt, ◌&&◌};
+ghost use Rattle.augmenting.specs.Owners.{seen};
+
+// At place j stands the number of the package that translator j + 1 has, or 0.
+#[derive(Clone, Copy)]
+pub struct Owners {
+    pub(crate) places: [u8; 64],
+    ghost full: { length places ≡ 64 },
+}
+
+impl Owners {
+    // Nobody has anyone.
+    pub fn none() -> Owners
+        ensures { (j : ℕ) → slice_index result.places j ≡ 0 }
+    {
+        Owners { places: [0; 64] }
+    }
+
+    pub fn places(&self) -> &[u8; 64]
+        ensures { result.now ≡ self.now.places }
+    {
+        &self.places
+    }
+
+    // Marks the translators of all packages before this one.
+    pub(crate) fn marks_before(&self, pkg: u8) -> [bool; 64]
+        ensures { result ≡ map (λ k. nat_lt 0 k && nat_lt k pkg) self.now.places }
+    {
+        self.places.map(|owner| 0 < owner && owner < pkg)
+    }
+
+    // Takes its translator from a package.
+    pub(crate) fn release(&mut self, pkg: u8)
+        ensures freed { (j : ℕ) → slice_index self.old.places j ≡ pkg → slice_index self.new.places j ≡ 0 }
+        ensures others { (j : ℕ) → (slice_index self.old.places j ≢ pkg) → slice_index self.new.places j ≡ slice_index self.old.places j }
+    {
+        for owner in &mut self.places {
+            if *owner == pkg {
+                *owner = 0;
+            }
+        }
+    }
+}
