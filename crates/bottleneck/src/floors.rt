@@ -25,9 +25,14 @@ impl<'t, K: Kind> AtFloor<'t, K> {
     // answers the set, which is short, where there is no such grade.
     fn lower(&self, pkg: u8, owners: &Owners, visited: &[bool; 64]) -> Result<Floor, Members>
         requires within { (0 < pkg) × (pkg ≤ self.now.table.now.packages) }
-        requires before { PlacedBefore (at_floor K.above self.now.table.now.codes self.now.floor) self.now.table.now.translators pkg owners.now.places }
-        requires left { IsLeftOver (at_floor K.above self.now.table.now.codes self.now.floor) self.now.table.now.translators pkg owners.now.places visited.now }
-        ensures { MatchResult result (λ lower. Lowered K.valid K.above self.now.table.now.codes self.now.table.now.packages self.now.table.now.translators self.now.floor (Some lower.code) lower.tight.places) (λ short. OneFewer (graded (table_grades self.now.table.now.codes)) self.now.table.now.packages self.now.table.now.translators (seen short.places)) }
+        requires before { let table = self.now.table.now in
+            PlacedBefore (at_floor K.above table.codes self.now.floor) table.translators pkg owners.now.places }
+        requires left { let table = self.now.table.now in
+            IsLeftOver (at_floor K.above table.codes self.now.floor) table.translators pkg owners.now.places visited.now }
+        ensures { let table = self.now.table.now in
+            MatchResult result
+            (λ lower. Lowered K.valid K.above table.codes table.packages table.translators self.now.floor (Some lower.code) lower.tight.places)
+            (λ short. OneFewer (graded (table_grades table.codes)) table.packages table.translators (seen short.places)) }
     {
         let set = Members::owners_and(pkg, owners, visited);
         match self.table.highest(&set, visited) {
@@ -45,11 +50,15 @@ fn place<K: Kind>(
     owners: &mut Owners,
 ) -> Result<Floor, Members>
     requires within { (0 < pkg) × (pkg ≤ table.now.packages) }
-    requires tight { TightAt K.valid K.above (table_grades table.now.codes) table.now.packages table.now.translators (Some start.code) start.tight.places }
+    requires tight { let grades = table_grades table.now.codes in
+        TightAt K.valid K.above grades table.now.packages table.now.translators (Some start.code) start.tight.places }
     requires before { PlacedBefore (at_floor K.above table.now.codes (Some start.code)) table.now.translators pkg owners.old.places }
-    ensures tight { IfOk result (λ floor. TightAt K.valid K.above (table_grades table.now.codes) table.now.packages table.now.translators (Some floor.code) floor.tight.places) }
-    ensures placed { IfOk result (λ floor. PlacedBefore (at_floor K.above table.now.codes (Some floor.code)) table.now.translators (pkg + 1) owners.new.places) }
-    ensures short { IfErr result (λ short. OneFewer (graded (table_grades table.now.codes)) table.now.packages table.now.translators (seen short.places)) }
+    ensures tight { let grades = table_grades table.now.codes in
+        IfOk result (λ floor. TightAt K.valid K.above grades table.now.packages table.now.translators (Some floor.code) floor.tight.places) }
+    ensures placed { IfOk result (λ floor.
+        PlacedBefore (at_floor K.above table.now.codes (Some floor.code)) table.now.translators (pkg + 1) owners.new.places) }
+    ensures short { IfErr result (λ short.
+        OneFewer (graded (table_grades table.now.codes)) table.now.packages table.now.translators (seen short.places)) }
 {
     let mut floor = start;
     loop {
@@ -68,7 +77,12 @@ fn place<K: Kind>(
 // Gives every package a translator at the highest floor at which all can have one, or answers a
 // short set where there is no such floor.
 pub(crate) fn match_all<K: Kind>(table: &Table<K>) -> Result<BestMatching, Members>
-    ensures { MatchResult result (λ best. TightAt K.valid K.above (table_grades table.now.codes) table.now.packages table.now.translators (Some best.lowest) best.tight.places × Complete (at_floor K.above table.now.codes (Some best.lowest)) table.now.packages table.now.translators best.owners.places) (λ short. OneFewer (graded (table_grades table.now.codes)) table.now.packages table.now.translators (seen short.places)) }
+    ensures { let grades = table_grades table.now.codes in
+        MatchResult result
+        (λ best.
+        TightAt K.valid K.above grades table.now.packages table.now.translators (Some best.lowest) best.tight.places
+        × Complete (at_floor K.above table.now.codes (Some best.lowest)) table.now.packages table.now.translators best.owners.places)
+        (λ short. OneFewer (graded grades) table.now.packages table.now.translators (seen short.places)) }
 {
     let mut owners = Owners::none();
     // without a floor no pair counts, so that package 1 is left over
