@@ -1,7 +1,9 @@
 -- Draw as a line of a page.
 use Rattle.std.proofs.Common.{◌≡◌, ℕ, ◌≤◌, Bool, true, false, List, length, is_some, Some, None, Ok, Err, Option, Result, if◌then◌else◌, sym, refl, ap, ◌∙◌, subst, ⊎_elim, arith, lit≤}
-use Rattle.matching.specs.Answers.{NoRoom, PlanWritten, ShortWritten}
+use Rattle.matching.specs.Answers.{NoRoom, Answered}
 use Rattle.matching.specs.Plans.{BestPlan}
+use Rattle.matching.specs.Written.{numbers_of}
+use Rattle.matching.specs.declared.into.Planned.{Planned}
 use Rattle.pages.proofs.Clear.{all_clear}
 use Rattle.pages.proofs.Clears.{draw_clear}
 use Rattle.pages.specs.Answers.{Right, valid_only}
@@ -11,9 +13,9 @@ use Rattle.pages.specs.Standing.{Standing, Drawn}
 use Rattle.refusals.specs.declared.refusal.Refusal.{Refusal}
 use Rattle.refusals.specs.declared.refusal.Refusal.TheVariants as refusal
 use Rattle.sheet.proofs.Answered.{never, kept_off, ran_to}
-use Rattle.sheet.specs.Admission.{admission, gate}
-use Rattle.sheet.specs.Draws.{DrawsNow, after}
-use Rattle.sheet.specs.Sheets.{Stood, RanLine}
+use Rattle.sheet.specs.Admission.{admission, gate, after}
+use Rattle.sheet.specs.Draws.{DrawsNow}
+use Rattle.sheet.specs.Sheets.{Stood, RanLine, drawn_of}
 use Rattle.sheet.specs.Steps.{with_plans}
 use Rattle.sheet.specs.Told.{asked, told, told_draw}
 use Rattle.sheet.specs.declared.role.Role.TheVariants as role
@@ -22,6 +24,7 @@ use Rattle.sheet.specs.declared.sheet.admission.Next.{Next}
 use Rattle.sheet.specs.declared.sheet.admission.Next.TheVariants as next
 use Rattle.sheet.specs.declared.sheet.drawing.Draw.{Draw}
 use Rattle.std.proofs.lemmas.Bool.{cases_lt}
+use Rattle.std.specs.Option.{option_map}
 
 same_ok : (x y : Next) → ◌≡◌ {A = Result Next Refusal} (Ok x) (Ok y) → x ≡ y
 same_ok x y e = cc
@@ -118,3 +121,14 @@ module _ (x : Stood) (given : ℕ) (plan set : List ℕ) where
         (e ∙ ap (λ (z : Next). after x z None) in_now.next ∙ ap (λ (z : Option Drawn). with_plans x z s.published) (sym in_now.idle))
         refl refl
     draw_runs (Err r) (w, e) = ran_to x y x line (told_draw (Err r) plan' set') (no_room r w) e refl refl
+
+-- what is handed out for a plan
+abbrev pub hand_out : ℕ → Planned → Draw
+hand_out tag p = record { lowest = p.lowest; slip = record { tag = tag; spent = false } }
+
+pub draws_now :
+    (x y : Stood) (n : Next) (plan set plan' set' : List ℕ) (drawn : Option Planned)
+    → Answered x.opening.above (valid_only x.opening x.standing.grade) x.opening.packages x.opening.translators plan set plan' set' (Ok drawn)
+    → y ≡ after x n (option_map drawn_of drawn) → DrawsNow x n plan set plan' set' (Ok (option_map (hand_out x.opening.tag) drawn)) y
+draws_now x y n plan set plan' set' (Some p) w e = (numbers_of p.plan, w, refl, e)
+draws_now x y n plan set plan' set' None w e = (w, e)

@@ -5,6 +5,8 @@ use Rattle.pages.specs.Standing.{Drawn}
 use Rattle.refusals.specs.declared.refusal.Refusal.{Refusal}
 use Rattle.refusals.specs.declared.refusal.Refusal.TheVariants as refusal
 use Rattle.sheet.specs.Roles.{number_of}
+use Rattle.sheet.specs.Sheets.{Stood}
+use Rattle.sheet.specs.Steps.{with_plans}
 use Rattle.sheet.specs.declared.role.Role.{Role}
 use Rattle.sheet.specs.declared.sheet.admission.Incoming.{Incoming}
 use Rattle.sheet.specs.declared.sheet.admission.Incoming.TheVariants as incoming
@@ -32,3 +34,7 @@ gate least role out tag call =
 abbrev pub settled : Next → Option Drawn → Option Drawn
 settled next.Idle drawn = None
 settled next.SlipOutIfDrawn drawn = drawn
+
+-- the sheet as an accepted call leaves it, but for what the call does to grades and the published plan
+abbrev pub after : Stood → Next → Option Drawn → Stood
+after x next drawn = with_plans x (settled next drawn) x.standing.published

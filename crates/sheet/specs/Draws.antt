@@ -2,17 +2,11 @@
 use Rattle.std.specs.Prelude.{◌≡◌, ℕ, List, Some, None, Ok, Err, Option, Result}
 use Rattle.matching.specs.Answers.{PlanWritten, ShortWritten, NoRoom}
 use Rattle.pages.specs.Answers.{valid_only}
-use Rattle.pages.specs.Standing.{Drawn}
 use Rattle.refusals.specs.declared.refusal.Refusal.{Refusal}
-use Rattle.sheet.specs.Admission.{settled}
+use Rattle.sheet.specs.Admission.{after}
 use Rattle.sheet.specs.Sheets.{Stood}
-use Rattle.sheet.specs.Steps.{with_plans}
 use Rattle.sheet.specs.declared.sheet.admission.Next.{Next}
 use Rattle.sheet.specs.declared.sheet.drawing.Draw.{Draw}
-
--- the sheet as an accepted call leaves it
-abbrev pub after : Stood → Next → Option Drawn → Stood
-after x next drawn = with_plans x (settled next drawn) x.standing.published
 
 abbrev pub DrawsNow :
     Stood → Next → List ℕ → List ℕ → List ℕ → List ℕ → Result (Option Draw) Refusal → Stood → Type 0

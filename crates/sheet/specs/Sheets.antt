@@ -3,14 +3,14 @@ use Rattle.std.specs.Prelude.{◌≡◌, ℕ, Bool, List, length, Some, Option}
 use Rattle.books.specs.Meaning.{Meaning}
 use Rattle.file_format.specs.FileOf.{file_of}
 use Rattle.matching.specs.Written.{numbers_of}
+use Rattle.matching.specs.declared.into.Planned.{Planned}
 use Rattle.pages.specs.Answers.{Runs, Ran}
 use Rattle.pages.specs.Lines.{Opening, Line, Answer, Event}
 use Rattle.pages.specs.Standing as page
-use Rattle.sheet.specs.declared.sheet.Drawn.{Drawn}
 use Rattle.sheet.specs.declared.sheet.Sheet.{Sheet}
 use Rattle.std.specs.Option.{option_map}
 
-abbrev pub drawn_of : Drawn → page.Drawn
+abbrev pub drawn_of : Planned → page.Drawn
 drawn_of d = record { plan = numbers_of d.plan; lowest = d.lowest }
 
 -- the opening over a book of this meaning

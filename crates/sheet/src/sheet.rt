@@ -11,16 +11,9 @@ mod stands;
 
 use books::{Reading, Sizes};
 pub use drawing::Draw;
-use matching::Plan;
+use matching::Planned;
 pub use stands::Stands;
 use std::marker::PhantomData;
-
-// A plan as it was drawn, with its lowest code.
-#[derive(Clone, Copy)]
-pub(crate) struct Drawn {
-    plan: Plan,
-    lowest: u32,
-}
 
 // A book with what was drawn and published from it, for one kind of grade. A slip is out where there
 // is a drawn plan that is not yet decided on.
@@ -29,8 +22,8 @@ pub struct Sheet<B, K> {
     book: B,
     kind: PhantomData<K>,
     tag: u32,
-    out: Option<Drawn>,
-    published: Option<Drawn>,
+    out: Option<Planned>,
+    published: Option<Planned>,
 }
 
 impl<B: Reading, K> Sheet<B, K> {

@@ -1,11 +1,14 @@
 // Who may call, and when.
-ghost use Rattle.sheet.specs.Admission.{role_answer, admission, gate, settled};
+ghost use Rattle.sheet.specs.Admission.{role_answer, admission, gate, after};
 ghost use Rattle.sheet.specs.Sheets.{drawn_of};
 ghost use Rattle.std.specs.Option.{option_map};
 ghost use Rattle.std.specs.Prelude.{◌≡◌};
 
-use super::{Drawn, Sheet};
+use super::{Sheet, Stands};
 use crate::Role;
+use books::Book;
+use grades::Kind;
+use matching::Planned;
 use refusals::Refusal;
 
 // A call by what it does to a slip: it wants none out, or spends one of a tag.
@@ -53,12 +56,11 @@ impl<B, K> Sheet<B, K> {
             (None, Incoming::Edit) | (Some(_), Incoming::Spend(_)) => Ok(Next::Idle),
         }
     }
+}
 
-    pub(crate) fn settle(&mut self, next: Next, drawn: Option<Drawn>)
-        ensures out { option_map drawn_of self.new.out ≡ settled next (option_map drawn_of drawn) }
-        ensures book { self.new.book ≡ self.old.book }
-        ensures tag { self.new.tag ≡ self.old.tag }
-        ensures published { self.new.published ≡ self.old.published }
+impl<B: Book, K: Kind> Sheet<B, K> {
+    pub(crate) fn settle(&mut self, next: Next, drawn: Option<Planned>)
+        ensures { ⟦<Self as Stands>⟧.stood self.new ≡ after (⟦<Self as Stands>⟧.stood self.old) next (option_map drawn_of drawn) }
     {
         self.out = match next {
             Next::Idle => None,

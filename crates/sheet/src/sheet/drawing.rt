@@ -7,11 +7,11 @@ ghost use Rattle.sheet.specs.Steps.{show_answer, shown_in};
 ghost use Rattle.sheet.specs.Told.{asked, told_draw, told_show};
 
 use super::admission::{Incoming, Next, check_role};
-use super::{Drawn, Sheet, Stands};
+use super::{Sheet, Stands};
 use crate::{Role, Slip};
 use books::Book;
 use grades::Kind;
-use matching::{Answer, match_into};
+use matching::match_into;
 use refusals::Refusal;
 
 // What is drawn where there is a full plan.
@@ -43,17 +43,12 @@ impl<B: Book, K: Kind> Sheet<B, K> {
     ) -> Result<Option<Draw>, Refusal>
         ensures { DrawsNow (⟦<Self as Stands>⟧.stood self.old) next plan.old set.old plan.new set.new result (⟦<Self as Stands>⟧.stood self.new) }
     {
-        match match_into::<B, K>(&self.book, plan, set)? {
-            Answer::Planned { plan, lowest } => {
-                self.settle(next, Some(Drawn { plan, lowest }));
-                let slip = Slip::of_tag(self.tag);
-                Ok(Some(Draw { lowest, slip }))
-            }
-            Answer::Short => {
-                self.settle(next, None);
-                Ok(None)
-            }
-        }
+        let drawn = match_into::<B, K>(&self.book, plan, set)?;
+        self.settle(next, drawn);
+        Ok(drawn.map(|drawn| Draw {
+            lowest: drawn.lowest,
+            slip: Slip::of_tag(self.tag),
+        }))
     }
 
     // Writes the published plan and answers its lowest code as drawn. Every plan that is published

@@ -69,7 +69,6 @@ impl<B: Book, K: Kind> Sheet<B, K> {
 // Puts every record of a file that was checked for this book.
 fn put_file<B: Book, K: Kind>(book: &mut B, file: &CheckedFile<'_>)
     requires empty { Empty (B.Reading.meaning book.old) }
-    requires count { file.now.count ≡ count_in file.now.file.now }
     requires room { count_in file.now.file.now ≤ B.LIMIT }
     requires bytes { Bytes file.now.file.now }
     requires right { Right (just K.NUMBER K.valid (B.Reading.meaning book.old).packages (B.Reading.meaning book.old).translators) file.now.file.now }

@@ -7,10 +7,11 @@ ghost use Rattle.sheet.specs.Steps.{spend_answer, with_plans};
 ghost use Rattle.sheet.specs.Told.{asked, told_spent};
 
 use super::admission::Incoming;
-use super::{Drawn, Sheet, Stands};
+use super::{Sheet, Stands};
 use crate::{Role, Slip};
 use books::Book;
 use grades::Kind;
+use matching::Planned;
 use refusals::Refusal;
 
 impl<B: Book, K: Kind> Sheet<B, K> {
@@ -37,7 +38,7 @@ impl<B: Book, K: Kind> Sheet<B, K> {
         least: Role,
         role: u32,
         slip: Slip,
-    ) -> Result<Option<Drawn>, (Refusal, Slip)>
+    ) -> Result<Option<Planned>, (Refusal, Slip)>
         ensures answer { handed result ≡ spend_answer least (⟦<Self as Stands>⟧.stood self.old) role slip }
         ensures after { ⟦<Self as Stands>⟧.stood self.new ≡ (if is_ok result then with_plans (⟦<Self as Stands>⟧.stood self.old) Lacks (⟦<Self as Stands>⟧.stood self.old).standing.published else ⟦<Self as Stands>⟧.stood self.old) }
     {
