@@ -1,6 +1,6 @@
 use Rattle.std.proofs.Common.{◌<◌, Bool, List, length, get_or, sym, ap, ◌∙◌, subst, arith, rules}
 use Rattle.augmenting.proofs.Necessity.{needed_at}
-use Rattle.augmenting.proofs.Passing.{handed_on_at, kept_passed, kept_taken, taken_at, unseen_falls, unseen_le, failed_at, passed_over}
+use Rattle.augmenting.proofs.Passing.{handed_on_at, unseen_falls, unseen_le, failed_at, passed_over}
 use Rattle.augmenting.proofs.owners.Owners.+augment.Goals as goal
 use Rattle.augmenting.proofs.owners.Owners.+augment.Goals.{then-not-visited-place+then-may_join+else-holder-eq0+else-augment, else-not-visited-place, else-not-visited-place-via-then-not-visited-place+else-may_join, else-not-visited-place-via-else-not-visited-place}
 use Rattle.augmenting.specs.Owners.{Needed}
