@@ -18,6 +18,7 @@ fn put_code<B: Book>(book: &mut B, pkg: u32, translator: u32, code: u32) -> Resu
 }
 
 // The codes of one package, below rows that are filled.
+// Rows and columns go by number, not by chunks: a pair is named by both, and a table may end early.
 fn fill_row<B: Book>(book: &mut B, codes: &[u32], row: u8) -> Result<(), Refusal>
     requires row { row < (B.Reading.meaning book.old).packages }
     requires filled { Partly B.LIMIT codes.now row 0 (B.Reading.meaning book.old) }
