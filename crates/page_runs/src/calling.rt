@@ -1,4 +1,5 @@
-// The calls of the program on its sheet. The slip that it holds goes in and out by value.
+// The calls of the program on its sheet. The slip that it holds stands beside the sheet and goes in
+// and out by value, since one in a field behind a `&mut` could be overwritten, and so dropped.
 ghost use Rattle.page_runs.specs.Asks.{opening_with};
 ghost use Rattle.page_runs.specs.Live.{Live, Closed};
 ghost use Rattle.page_runs.specs.Output.{Tells};
@@ -26,7 +27,11 @@ pub(crate) fn answer_command(
     command: Command<'_>,
 ) -> (Option<Slip>, Result<(), AllocError>)
     requires { (h : List Event) × Live sizes.packages sizes.translators h sheet.old held }
-    ensures { (h : List Event) → Live sizes.packages sizes.translators h sheet.old held → (t : Told) × (k : List Event) × Live sizes.packages sizes.translators k sheet.new result.0 × Tells (opening_with sizes.packages sizes.translators) h (said_of command.entry) t k × OnOk result.1 (string_bytes out.new ≡ string_bytes out.old ++ line_of t) }
+    ensures { (h : List Event) → Live sizes.packages sizes.translators h sheet.old held
+        → (t : Told) × (k : List Event)
+        × Live sizes.packages sizes.translators k sheet.new result.0
+        × Tells (opening_with sizes.packages sizes.translators) h (said_of command.entry) t k
+        × OnOk result.1 (string_bytes out.new ≡ string_bytes out.old ++ line_of t) }
 {
     match call_for(command, held) {
         (Err(reply), kept) => (kept, tell(out, reply)),

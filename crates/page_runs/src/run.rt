@@ -15,7 +15,7 @@ use sheet::Sheet;
 use std::alloc::{AllocError, Global};
 use table_book::TableBook;
 
-const MOST_BYTES: usize = 32_768;
+pub const MOST_BYTES: usize = 32_768;
 
 const TAG: u32 = 1;
 
@@ -35,7 +35,9 @@ fn run_lines(
     lines: Lines<'_>,
 ) -> Result<(), AllocError>
     requires { Live sizes.packages sizes.translators [] sheet None }
-    ensures { OnOk result ((more : List ℕ) × (string_bytes out.new ≡ string_bytes out.old ++ more) × Follows (opening_with sizes.packages sizes.translators) [] (left_of lines.entry) more) }
+    ensures { OnOk result ((more : List ℕ)
+        × (string_bytes out.new ≡ string_bytes out.old ++ more)
+        × Follows (opening_with sizes.packages sizes.translators) [] (left_of lines.entry) more) }
 {
     let mut held = None;
     for line in lines {
@@ -53,7 +55,9 @@ fn run_lines(
 }
 
 fn write_output(out: &mut String, input: &[u8]) -> Result<(), AllocError>
-    ensures { OnOk result ((more : List ℕ) × (string_bytes out.new ≡ string_bytes out.old ++ more) × Output input.now more) }
+    ensures { OnOk result ((more : List ℕ)
+        × (string_bytes out.new ≡ string_bytes out.old ++ more)
+        × Output input.now more) }
 {
     if input.len() > MOST_BYTES {
         return tell(out, Reply::TooLong);

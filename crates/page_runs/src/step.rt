@@ -64,7 +64,8 @@ pub(crate) fn call_for(
 
 // The withdraw of a slip that is held when the lines are at an end.
 pub(crate) fn last_line<'a>(slip: Slip) -> Line<'a>
-    ensures { (plan set : List ℕ) → asked_of result plan set ≡ asked 3 (Call.withdraw slip.tag) plan set }
+    ensures { (plan set : List ℕ)
+        → asked_of result plan set ≡ asked 3 (Call.withdraw slip.tag) plan set }
 {
     Line::Withdraw {
         role: Role::Manager.into(),
