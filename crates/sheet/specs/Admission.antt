@@ -14,7 +14,7 @@ use Rattle.sheet.specs.declared.sheet.admission.Next.{Next}
 use Rattle.sheet.specs.declared.sheet.admission.Next.TheVariants as next
 
 abbrev pub role_answer : Role → ℕ → Result (Unit {0}) Refusal
-role_answer least role = (if may (number_of least) role then Ok tt else Err refusal.Role)
+role_answer least role = if may (number_of least) role then Ok tt else Err refusal.Role
 
 -- by the plan whose slip is out and the tag of the sheet
 abbrev pub admission : Option Drawn → ℕ → Incoming → Result Next Refusal
@@ -23,12 +23,12 @@ admission None tag incoming.Draw = Ok next.SlipOutIfDrawn
 admission None tag (incoming.Spend given) = Err refusal.WrongSlip
 admission (Some d) tag incoming.Edit = Err refusal.SlipOut
 admission (Some d) tag incoming.Draw = Err refusal.SlipOut
-admission (Some d) tag (incoming.Spend given) = (if given == tag then Ok next.Idle else Err refusal.WrongSlip)
+admission (Some d) tag (incoming.Spend given) = if given == tag then Ok next.Idle else Err refusal.WrongSlip
 
 -- by the role first
 abbrev pub gate : Role → ℕ → Option Drawn → ℕ → Incoming → Result Next Refusal
 gate least role out tag call =
-    (if may (number_of least) role then admission out tag call else Err refusal.Role)
+    if may (number_of least) role then admission out tag call else Err refusal.Role
 
 -- the plan whose slip is out after an accepted call
 abbrev pub settled : Next → Option Drawn → Option Drawn

@@ -19,10 +19,10 @@ abbrev pub least_role_to_save : ℕ
 least_role_to_save = 1
 
 abbrev pub save_answer : ℕ → List ℕ → List ℕ → Result ℕ Refusal
-save_answer role file buffer = (if may least_role_to_save role then write_answer file buffer else Err refusal.Role)
+save_answer role file buffer = if may least_role_to_save role then write_answer file buffer else Err refusal.Role
 
 abbrev pub save_after : ℕ → List ℕ → List ℕ → List ℕ
-save_after role file buffer = (if may least_role_to_save role then write_after file buffer else buffer)
+save_after role file buffer = if may least_role_to_save role then write_after file buffer else buffer
 
 -- a load is let in by a manager, while no slip is out, into a sheet without a grade
 abbrev pub LoadGate : Stood → ℕ → Result (Unit {0}) Refusal → Type 0
