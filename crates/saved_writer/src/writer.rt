@@ -9,6 +9,8 @@ use file_format::{GradeRecord, SheetRecord};
 use grades::Kind;
 use refusals::Refusal;
 
+// `out` and `at` stay two: a struct that holds the loan needs a clause on its end in each function.
+
 // The six bytes of one grade.
 fn write_grade(out: &mut [u8], at: usize, found: GradeRecord)
     requires { at + 6 ≤ length out.old }
