@@ -9,7 +9,7 @@ use Rattle.pages.proofs.Clear.{all_clear}
 use Rattle.pages.proofs.Clears.{load_clear, draw_clear, spend_clear}
 use Rattle.pages.proofs.Told.{refused_for_the_first_reason, drawn_lines_have_the_best_plan, short_lines_have_no_plan}
 use Rattle.pages.specs.Answers.{Page}
-use Rattle.pages.specs.Lines.{Opening, Event, Call}
+use Rattle.pages.specs.Lines.{Opening, Event, Call, Answer}
 use Rattle.pages.specs.Reasons.{file_expected}
 use Rattle.pages.specs.Standing.{first_of, grade_at, standing}
 use Rattle.pages.proofs.Runs.{ran_more}
@@ -17,10 +17,9 @@ use Rattle.plan_report.specs.Offices.{RanOn, Settled, opening_for}
 use Rattle.refusals.specs.declared.fault.Cause.{Cause}
 use Rattle.refusals.specs.declared.fault.Cause.TheVariants as cause
 use Rattle.refusals.specs.declared.refusal.Refusal.{Refusal}
-use Rattle.sheet.specs.Sheets.{RanLine, opening_of, standing_of}
+use Rattle.sheet.specs.Sheets.{RanLine, Stood, stood_of}
 use Rattle.sheet.specs.Told.{asked, told_done, told_draw, told_spent}
 use Rattle.sheet.specs.declared.sheet.drawing.Draw.{Draw}
-use Rattle.sheet.specs.declared.sheet.drawing.Draw.TheVariants as draw
 use Rattle.sheet.specs.declared.sheet.Sheet.{Sheet}
 use Rattle.sheet.specs.declared.slip.Slip.{Slip}
 use Rattle.std.proofs.lemmas.Bool.{leb-true}
@@ -30,11 +29,18 @@ use Rattle.table_book.specs.declared.table_book.TableBook.{TableBook}
 abbrev loading : List ℕ → Result (Unit {0}) Refusal → Event
 loading file r = record { line = asked 3 (Call.load file) [] []; answer = told_done r [] [] }
 
-abbrev drawing : List ℕ → List ℕ → Result Draw Refusal → List ℕ → List ℕ → Event
+abbrev drawing : List ℕ → List ℕ → Result (Option Draw) Refusal → List ℕ → List ℕ → Event
 drawing plan set r plan' set' = record { line = asked 3 Call.draw plan set; answer = told_draw r plan' set' }
 
 abbrev spending : ℕ → Result (Unit {0}) (Refusal × Slip) → Event
 spending tag r = record { line = asked 3 (Call.withdraw tag) [] []; answer = told_spent r [] [] }
+
+-- a line run by a number that is a manager's
+pub as_manager :
+    {x y : Stood} (role : ℕ) (call : Call) (plan set : List ℕ) (answer : Answer) → role ≡ 3
+    → RanLine x y (asked role call plan set) answer → RanLine x y (asked 3 call plan set) answer
+as_manager {x = x} {y = y} role call plan set answer is ran =
+    subst (λ (n : ℕ). RanLine x y (asked n call plan set) answer) is ran
 
 -- a right file has no more records than a sheet has pairs
 second_kept :
@@ -79,17 +85,17 @@ module _ (o : Opening) (file plan set plan' set' : List ℕ) where
       (draw_clear o (standing o.packages loaded) 3 plan set 12 (λ _. refl) (λ _. refl) (λ _. a) (λ _. b))
       r ((refused_for_the_first_reason o loaded (drawing plan set (Err r) plan' set') r page).0 refl).0.holds
 
-  at_draw : (d e : Draw) → d ≡ e → Page o (drawing plan set (Ok d) plan' set' ∷ loaded) → Page o (drawing plan set (Ok e) plan' set' ∷ loaded)
-  at_draw d e is page = subst (λ (x : Draw). Page o (drawing plan set (Ok x) plan' set' ∷ loaded)) is page
+  at_draw : (d e : Option Draw) → d ≡ e → Page o (drawing plan set (Ok d) plan' set' ∷ loaded) → Page o (drawing plan set (Ok e) plan' set' ∷ loaded)
+  at_draw d e is page = subst (λ (x : Option Draw). Page o (drawing plan set (Ok x) plan' set' ∷ loaded)) is page
 
   spend_accepted :
-      (d : Draw) (lowest : ℕ) (slip : Slip) (back : Refusal × Slip) → d ≡ draw.Drawn lowest slip
+      (d : Option Draw) (lowest : ℕ) (slip : Slip) (back : Refusal × Slip) → d ≡ Some (record { lowest = lowest; slip = slip })
       → Page o (spending slip.tag (Err back) ∷ drawing plan set (Ok d) plan' set' ∷ loaded) → ⊥
   spend_accepted d lowest slip back is given =
-      let page : Page o (spending slip.tag (Err back) ∷ drawing plan set (Ok (draw.Drawn lowest slip)) plan' set' ∷ loaded) =
-      subst (λ (x : Draw). Page o (spending slip.tag (Err back) ∷ drawing plan set (Ok x) plan' set' ∷ loaded)) is given in
-      let h = drawing plan set (Ok (draw.Drawn lowest slip)) plan' set' ∷ loaded in
-      let own = (drawn_lines_have_the_best_plan o loaded (drawing plan set (Ok (draw.Drawn lowest slip)) plan' set') lowest page.1 refl).1.slip in
+      let page : Page o (spending slip.tag (Err back) ∷ drawing plan set (Ok (Some (record { lowest = lowest; slip = slip }))) plan' set' ∷ loaded) =
+      subst (λ (x : Option Draw). Page o (spending slip.tag (Err back) ∷ drawing plan set (Ok x) plan' set' ∷ loaded)) is given in
+      let h = drawing plan set (Ok (Some (record { lowest = lowest; slip = slip }))) plan' set' ∷ loaded in
+      let own = (drawn_lines_have_the_best_plan o loaded (drawing plan set (Ok (Some (record { lowest = lowest; slip = slip }))) plan' set') lowest page.1 refl).1.slip in
       all_clear o (standing o.packages h) (asked 3 (Call.withdraw slip.tag) [] [])
       (spend_clear o (standing o.packages h) 3 [] [] 12 (Call.withdraw slip.tag) slip.tag refl refl refl refl (omega arith)
       (omega arith) (λ _. refl) (λ _. (refl, same_some slip.tag o.tag own)))
@@ -99,19 +105,19 @@ module _ (o : Opening) (file plan set plan' set' : List ℕ) where
   same_grades = λ k i j. itself (grade_in file i j) k
 
   drawn_settled :
-      (d : Draw) (lowest : ℕ) (slip : Slip) → d ≡ draw.Drawn lowest slip → Page o (drawing plan set (Ok d) plan' set' ∷ loaded)
+      (d : Option Draw) (lowest : ℕ) (slip : Slip) → d ≡ Some (record { lowest = lowest; slip = slip }) → Page o (drawing plan set (Ok d) plan' set' ∷ loaded)
       → Settled o.above (grade_in file) o.packages o.translators plan' set' (Some lowest)
   drawn_settled d lowest slip is page =
-      let e = drawing plan set (Ok (draw.Drawn lowest slip)) plan' set' in
-      let w = (drawn_lines_have_the_best_plan o loaded e lowest (at_draw d (draw.Drawn lowest slip) is page) refl).1 in
+      let e = drawing plan set (Ok (Some (record { lowest = lowest; slip = slip }))) plan' set' in
+      let w = (drawn_lines_have_the_best_plan o loaded e lowest (at_draw d (Some (record { lowest = lowest; slip = slip })) is page) refl).1 in
       subst (λ (G : ℕ → ℕ → Option ℕ). Settled o.above G o.packages o.translators plan' set' (Some lowest)) same_grades
       (w.best, w.tight)
 
   short_settled :
-      (d : Draw) → d ≡ draw.Short → Page o (drawing plan set (Ok d) plan' set' ∷ loaded)
+      (d : Option Draw) → d ≡ None → Page o (drawing plan set (Ok d) plan' set' ∷ loaded)
       → Settled o.above (grade_in file) o.packages o.translators plan' set' None
   short_settled d is page =
-      let w = (short_lines_have_no_plan o loaded (drawing plan set (Ok draw.Short) plan' set') (at_draw d draw.Short is page) refl).1 in
+      let w = (short_lines_have_no_plan o loaded (drawing plan set (Ok None) plan' set') (at_draw d None is page) refl).1 in
       subst (λ (G : ℕ → ℕ → Option ℕ). Settled o.above G o.packages o.translators plan' set' None) same_grades
       (w.none, w.short)
 
@@ -123,13 +129,15 @@ module _
     abbrev o : Opening
     o = opening_for number valid above p t
 
+    abbrev meant : Sheet TableBook K → Stood
+    meant s = stood_of 3072 number valid above table_meaning s
+
     abbrev RanBetween : Sheet TableBook K → Sheet TableBook K → Event → Type 0
-    RanBetween x y e = RanLine 3072 number valid above table_meaning x y e.line e.answer
+    RanBetween x y e = RanLine (meant x) (meant y) e.line e.answer
 
     grown : (h : List Event) (x y : Sheet TableBook K) (e : Event) → RanOn number valid above p t h x → RanBetween x y e → RanOn number valid above p t (e ∷ h) y
     grown h x y e a b =
-        ran_more o (opening_of 3072 number valid above table_meaning x) h (standing_of table_meaning x) e.line e.answer
-        (opening_of 3072 number valid above table_meaning y) (standing_of table_meaning y) a b
+        ran_more o (meant x).opening h (meant x).standing e.line e.answer (meant y).opening (meant y).standing a b
 
     pub load_ends : (r : Refusal) → rules.Right (rules.just number valid p t) file → RanBetween s0 s1 (loading file (Err r)) → ⊥
     load_ends r right a = load_accepted o file refl right r (grown [] s0 s1 (loading file (Err r)) opened a).page
@@ -138,23 +146,23 @@ module _
       loaded_on : RanOn number valid above p t (loading file (Ok tt) ∷ []) s1
       loaded_on = grown [] s0 s1 (loading file (Ok tt)) opened load
 
-      drawn_on : (r : Result Draw Refusal) → RanBetween s1 s2 (drawing plan set r plan' set') → RanOn number valid above p t (drawing plan set r plan' set' ∷ loading file (Ok tt) ∷ []) s2
+      drawn_on : (r : Result (Option Draw) Refusal) → RanBetween s1 s2 (drawing plan set r plan' set') → RanOn number valid above p t (drawing plan set r plan' set' ∷ loading file (Ok tt) ∷ []) s2
       drawn_on r a = grown (loading file (Ok tt) ∷ []) s1 s2 (drawing plan set r plan' set') loaded_on a
 
       pub draw_ends : (r : Refusal) → p ≤ length plan → p ≤ length set → RanBetween s1 s2 (drawing plan set (Err r) plan' set') → ⊥
       draw_ends r x y a = draw_accepted o file plan set plan' set' r x y (drawn_on (Err r) a).page
 
-      module _ (d : Draw) (draws : RanBetween s1 s2 (drawing plan set (Ok d) plan' set')) where
+      module _ (d : Option Draw) (draws : RanBetween s1 s2 (drawing plan set (Ok d) plan' set')) where
         pub spend_ends :
-            (lowest : ℕ) (slip : Slip) (back : Refusal × Slip) (s3 : Sheet TableBook K) → d ≡ draw.Drawn lowest slip
+            (lowest : ℕ) (slip : Slip) (back : Refusal × Slip) (s3 : Sheet TableBook K) → d ≡ Some (record { lowest = lowest; slip = slip })
             → RanBetween s2 s3 (spending slip.tag (Err back)) → ⊥
         spend_ends lowest slip back s3 is a =
             spend_accepted o file plan set plan' set' d lowest slip back is
             (grown (drawing plan set (Ok d) plan' set' ∷ loading file (Ok tt) ∷ []) s2 s3 (spending slip.tag (Err back)) (drawn_on (Ok d) draws) a).page
 
         pub plan_drawn :
-            (lowest : ℕ) (slip : Slip) → d ≡ draw.Drawn lowest slip → Settled above (grade_in file) p t plan' set' (Some lowest)
+            (lowest : ℕ) (slip : Slip) → d ≡ Some (record { lowest = lowest; slip = slip }) → Settled above (grade_in file) p t plan' set' (Some lowest)
         plan_drawn lowest slip is = drawn_settled o file plan set plan' set' d lowest slip is (drawn_on (Ok d) draws).page
 
-        pub none_drawn : d ≡ draw.Short → Settled above (grade_in file) p t plan' set' None
+        pub none_drawn : d ≡ None → Settled above (grade_in file) p t plan' set' None
         none_drawn is = short_settled o file plan set plan' set' d is (drawn_on (Ok d) draws).page

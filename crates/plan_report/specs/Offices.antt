@@ -5,11 +5,10 @@ use Rattle.file_format.specs.Rules.{Expected, just}
 use Rattle.grades.specs.Names.{kind_number}
 use Rattle.matching.specs.Answers.{member}
 use Rattle.matching.specs.Plans.{BestPlan, NoPlan, ShortSet, TightSet}
-use Rattle.pages.specs.Answers.{Ran}
 use Rattle.pages.specs.Lines.{Opening, Event}
 use Rattle.saved_file.specs.ByItself.{valid_in}
 use Rattle.saved_file.specs.declared.head.Head.{Head}
-use Rattle.sheet.specs.Sheets.{opening_of, standing_of}
+use Rattle.sheet.specs.Sheets.{LedTo, stood_of}
 use Rattle.sheet.specs.declared.sheet.Sheet.{Sheet}
 use Rattle.table_book.specs.Table.{table_meaning}
 use Rattle.table_book.specs.declared.table_book.TableBook.{TableBook}
@@ -30,7 +29,7 @@ opening_for number valid above p t =
 abbrev pub RanOn :
     {K : Type 0} → ℕ → (ℕ → Bool) → (ℕ → ℕ → Bool) → ℕ → ℕ → List Event → Sheet TableBook K → Type 0
 RanOn number valid above p t h s =
-    Ran (opening_for number valid above p t) h (opening_of 3072 number valid above table_meaning s) (standing_of table_meaning s)
+    LedTo (opening_for number valid above p t) h (stood_of 3072 number valid above table_meaning s)
 
 -- the first p places hold the best plan by grades G, and the first p bytes a tight set; or there is
 -- no full plan, and they hold a short set

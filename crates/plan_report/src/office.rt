@@ -9,20 +9,15 @@ ghost use Rattle.grades.specs.Names.{kind_number};
 use books::Sizes;
 use grades::{Kind, KindName, Points, Ratings};
 use saved_file::Head;
-use sheet::{Draw, Sheet};
+use sheet::{Draw, Role, Sheet};
 use table_book::TableBook;
-
-const MANAGER: u32 = 3;
 
 const TAG: u32 = 1;
 
 fn open_sheet<K: Kind>(sizes: Sizes) -> Sheet<TableBook, K>
     ensures { RanOn K.NUMBER K.valid K.above sizes.packages sizes.translators [] result }
 {
-    match Sheet::open(TableBook::new(sizes), TAG) {
-        Ok(sheet) => sheet,
-        Err(_) => unreachable(),
-    }
+    Sheet::open(TableBook::new(sizes), TAG).unwrap()
 }
 
 // The lowest code of the best plan by the grades of a right file, with the plan and a tight set in
@@ -37,19 +32,18 @@ fn draw_file<K: Kind + Drop>(
     requires room { (48 ≤ length plan.old) × (48 ≤ length set.old) }
     ensures { Settled K.above (grade_in file.now) sizes.packages sizes.translators plan.new set.new result }
 {
+    let manager = Role::Manager.into();
     let mut sheet = open_sheet::<K>(sizes);
-    let Ok(()) = sheet.load(MANAGER, file) else {
-        unreachable()
+    let Ok(()) = sheet.load(manager, file) else {
+        unreachable!()
     };
-    let Ok(drawn) = sheet.draw(MANAGER, plan, set) else {
-        unreachable()
+    let Ok(drawn) = sheet.draw(manager, plan, set) else {
+        unreachable!()
     };
-    match drawn {
-        Draw::Drawn { lowest, slip } => match sheet.withdraw(MANAGER, slip) {
-            Ok(()) => Some(lowest),
-            Err((_, _slip)) => unreachable(),
-        },
-        Draw::Short => None,
+    let Draw { lowest, slip } = drawn?;
+    match sheet.withdraw(manager, slip) {
+        Ok(()) => Some(lowest),
+        Err((_, _slip)) => unreachable!(),
     }
 }
 
