@@ -43,6 +43,7 @@ fn run_lines(
     for line in lines {
         let (kept, told) = answer_command(out, &mut sheet, sizes, held, parse(line));
         held = kept;
+        // a `?` would return before the slip is withdrawn
         if let Err(full) = told {
             close(&mut sheet, held);
             return Err(full);

@@ -1,7 +1,8 @@
 // What one line of the input asks for.
 
-// Numbers stand in the order of the line. The word of a line that is none of these stays a part of
-// the input.
+// Numbers stand in the order of the line. A role is any number, since a line with a number that names
+// no role is a call all the same, which the sheet refuses. The word of a line that is none of these
+// stays a part of the input.
 #[derive(Clone, Copy)]
 pub enum Command<'a> {
     Open {
