@@ -1,10 +1,9 @@
 -- Whole matchings: one package released, and the same package placed first.
-use Rattle.std.proofs.Common.{◌≡◌, ℕ, ◌+◌, ◌-◌, ◌<◌, ◌≤◌, Bool, true, false, ◌&&◌, ltb, List, get_or, map, sym, refl, ap, ◌∙◌, ⊎_elim, arith}
+use Rattle.std.proofs.Common.{◌≡◌, ℕ, ◌+◌, ◌-◌, ◌<◌, ◌≤◌, Bool, true, false, ◌&&◌, ltb, List, get_or, sym, refl, ap, ◌∙◌, ⊎_elim, arith}
 use Rattle.augmenting.proofs.Blocked.{blocked}
 use Rattle.augmenting.specs.Assigned.{Assigns, Complete, Least, PlacedFirst}
 use Rattle.augmenting.specs.Owners.{Augmented, Closed, Free, Has, Kept, Matching, Tried, seen}
 use Rattle.std.proofs.lemmas.Bool.{and_from, and_parts, both_ways, cases_Bool, cases_eq, cases_lt, lt-ltb, ltb-true}
-use Rattle.std.proofs.Math.ListN.{get_or-map}
 
 -- the function of a whole matching
 pub chosen : (C : ℕ → ℕ → Bool) (p t : ℕ) (o : List ℕ) → Complete C p t o → (k : ℕ) → (j : ℕ) × (k < p → get_or o j 0 ≡ k + 1)
@@ -32,10 +31,10 @@ pub record Released (i : ℕ) (o n : List ℕ) (v : List Bool) : Type 0 where
   pub others : (j : ℕ) → (get_or o j 0 ≡ i → ⊥) → get_or n j 0 ≡ get_or o j 0
 
 pub released_by :
-    (i : ℕ) (o n : List ℕ) (v : List Bool) → v ≡ map (λ k. ltb 0 k && ltb k i) o
+    (i : ℕ) (o n : List ℕ) (v : List Bool) → ((j : ℕ) → seen v j ≡ (ltb 0 (get_or o j 0) && ltb (get_or o j 0) i))
     → ((j : ℕ) → get_or o j 0 ≡ i → get_or n j 0 ≡ 0) → ((j : ℕ) → (get_or o j 0 ≡ i → ⊥) → get_or n j 0 ≡ get_or o j 0)
     → Released i o n v
-released_by i o n v e freed others =
+released_by i o n v mark freed others =
     record {
       marked = λ j z l. mark j ∙ and_from (ltb 0 (get_or o j 0)) (ltb (get_or o j 0) i) (lt-ltb 0 (get_or o j 0) z) (lt-ltb (get_or o j 0) i l);
       only = λ j q.
@@ -44,9 +43,6 @@ released_by i o n v e freed others =
       freed = freed;
       others = others;
     }
-  where
-    mark : (j : ℕ) → seen v j ≡ (ltb 0 (get_or o j 0) && ltb (get_or o j 0) i)
-    mark j = ap (λ w. seen w j) e ∙ get_or-map (λ k. ltb 0 k && ltb k i) o j 0
 
 pub released_old : (i : ℕ) (o n : List ℕ) (v : List Bool) → Released i o n v → (j : ℕ) → 0 < get_or n j 0 → get_or n j 0 ≡ get_or o j 0
 released_old i o n v r j z = ⊎_elim (λ e. absurd (let q = r.freed j e in omega (arith, q, z))) (λ d. r.others j d) (cases_eq (get_or o j 0) i)

@@ -1,5 +1,5 @@
 // Who has whom, while packages get translators one after another.
-ghost use Rattle.std.specs.Prelude.{◌≡◌, ℕ, ◌<◌, false, true, length, ◌≢◌, slice_index, map, nat_lt, ◌&&◌};
+ghost use Rattle.std.specs.Prelude.{◌≡◌, ℕ, ◌<◌, false, true, length, ◌≢◌, slice_index, nat_lt, ◌&&◌};
 ghost use Rattle.augmenting.specs.Owners.{seen};
 
 // At place j stands the number of the package that translator j + 1 has, or 0.
@@ -25,9 +25,14 @@ impl Owners {
 
     // Marks the translators of all packages before this one.
     pub(crate) fn marks_before(&self, pkg: u8) -> [bool; 64]
-        ensures { result ≡ map (λ k. nat_lt 0 k && nat_lt k pkg) self.now.places }
+        ensures { (j : ℕ) → seen result j ≡ (nat_lt 0 (slice_index self.now.places j) && nat_lt (slice_index self.now.places j) pkg) }
     {
-        self.places.map(|owner| 0 < owner && owner < pkg)
+        // an array's `map` would take several times as long as this loop
+        let mut marks = [false; 64];
+        for (j, owner) in self.places.iter().enumerate() {
+            marks[j] = 0 < *owner && *owner < pkg;
+        }
+        marks
     }
 
     // Takes its translator from a package.

@@ -10,7 +10,10 @@ impl Owners {
     // was, and the marks say why.
     pub fn augment<P: Pattern>(&mut self, pattern: &P, pkg: u8, visited: &mut [bool; 64]) -> bool
         ensures kept { Kept visited.old self.old.places self.new.places }
-        ensures found { result ≡ true → 0 < pkg → Matching (P.joins pattern.now) (P.translators pattern.now) self.old.places → Free self.old.places pkg → Augmented (P.joins pattern.now) (P.translators pattern.now) visited.old pkg self.old.places self.new.places }
+        ensures found { result ≡ true → 0 < pkg
+            → Matching (P.joins pattern.now) (P.translators pattern.now) self.old.places
+            → Free self.old.places pkg
+            → Augmented (P.joins pattern.now) (P.translators pattern.now) visited.old pkg self.old.places self.new.places }
         ensures same { result ≡ false → self.new.places ≡ self.old.places }
         ensures closed { result ≡ false → Closed (P.joins pattern.now) (P.translators pattern.now) self.old.places visited.old visited.new }
         ensures needed { result ≡ false → Needed (P.joins pattern.now) (P.translators pattern.now) pkg self.old.places visited.old visited.new }

@@ -11,4 +11,4 @@ checked (Ok s) = Ok (s.packages, s.translators)
 checked (Err e) = Err e
 
 abbrev pub sizes_of : ℕ → ℕ → Result (ℕ × ℕ) Refusal
-sizes_of p t = (if within p t then Ok (p, t) else Err Size)
+sizes_of p t = if within p t then Ok (p, t) else Err Size

@@ -25,7 +25,7 @@ pub record Blank (p t : ℕ) (m : Meaning) : Type 0 where
 
 -- the same grades but for one pair
 abbrev pub changed : (ℕ → ℕ → Option ℕ) → ℕ → ℕ → Option ℕ → ℕ → ℕ → Option ℕ
-changed f a b v i j = (if (i == a && j == b) then v else f i j)
+changed f a b v i j = if (i == a && j == b) then v else f i j
 
 abbrev pub with_grade : Meaning → ℕ → ℕ → Option ℕ → Meaning
 with_grade m a b v =

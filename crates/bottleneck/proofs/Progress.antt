@@ -1,7 +1,8 @@
 -- One package more has a translator, and a lower floor takes none away.
 use Rattle.std.proofs.Common.{◌≡◌, ℕ, ◌+◌, Bool, true, false, List, get_or, None, Option, sym, refl, ◌∙◌, subst, ⊎_elim, arith}
 use Rattle.augmenting.specs.Owners.{Augmented, Closed, Free, Tried, seen}
-use Rattle.bottleneck.specs.Lowered.{IsLeftOver, Lowered, PlacedBefore, at_floor}
+use Rattle.bottleneck.specs.Codes.{table_grades}
+use Rattle.bottleneck.specs.Lowered.{IsLeftOver, Lowered, PlacedBefore, TightAt, at_floor}
 use Rattle.std.proofs.lemmas.Bool.{both_ways, cases_eq, cases_lt, false≢true}
 
 pub left_free : (C : ℕ → ℕ → Bool) (t i : ℕ) (o : List ℕ) → PlacedBefore C t i o → Free o i
@@ -65,14 +66,33 @@ left_over C t i o n v w fresh q c tried =
 
 -- without a floor there is nothing to try
 pub nothing_to_try :
-    (above : ℕ → ℕ → Bool) (codes : List ℕ) (t i : ℕ) (o : List ℕ) (w : List Bool) → ((j : ℕ) → seen w j ≡ false)
-    → IsLeftOver (at_floor above codes None) t i o w
-nothing_to_try above codes t i o w fresh =
-    record {
+    (above : ℕ → ℕ → Bool) (codes : List ℕ) (t i : ℕ) (floor : Option ℕ) (o : List ℕ) (w : List Bool) → floor ≡ None
+    → ((j : ℕ) → seen w j ≡ false) → IsLeftOver (at_floor above codes floor) t i o w
+nothing_to_try above codes t i floor o w q fresh =
+    subst (λ (x : Option ℕ). IsLeftOver (at_floor above codes x) t i o w) (sym q)
+    (record {
       closed = record {
         grows = λ j e. absurd (false≢true e);
         owned = λ j e f. absurd (both_ways (seen w j) (fresh j) e);
         reach = λ j k e f l d. absurd (false≢true d);
       };
       tried = λ j l e. absurd (false≢true e);
-    }
+    })
+
+-- the same of a table and a floor that are known to be alike
+pub placed_alike :
+    (above : ℕ → ℕ → Bool) (codes codes' : List ℕ) (t t' i : ℕ) (floor floor' : Option ℕ) (o : List ℕ)
+    → codes ≡ codes' → t ≡ t' → floor ≡ floor' → PlacedBefore (at_floor above codes floor) t i o → PlacedBefore (at_floor above codes' floor') t' i o
+placed_alike above codes codes' t t' i floor floor' o e h q b =
+    subst (λ (x : List ℕ). PlacedBefore (at_floor above x floor') t' i o) e
+    (subst (λ (x : ℕ). PlacedBefore (at_floor above codes floor') x i o) h
+    (subst (λ (x : Option ℕ). PlacedBefore (at_floor above codes x) t i o) q b))
+
+pub tight_alike :
+    (valid : ℕ → Bool) (above : ℕ → ℕ → Bool) (codes codes' : List ℕ) (p p' t t' : ℕ) (floor : Option ℕ) (s : List Bool)
+    → codes ≡ codes' → p ≡ p' → t ≡ t' → TightAt valid above (table_grades codes) p t floor s
+    → TightAt valid above (table_grades codes') p' t' floor s
+tight_alike valid above codes codes' p p' t t' floor s e f h c =
+    subst (λ (x : List ℕ). TightAt valid above (table_grades x) p' t' floor s) e
+    (subst (λ (x : ℕ). TightAt valid above (table_grades codes) x t' floor s) f
+    (subst (λ (x : ℕ). TightAt valid above (table_grades codes) p x floor s) h c))

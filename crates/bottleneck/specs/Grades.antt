@@ -5,7 +5,7 @@ use Rattle.books.specs.Meaning.{Meaning}
 -- a code that is not valid in the kind counts as no grade
 abbrev pub counted : (ℕ → Bool) → Option ℕ → Option ℕ
 counted valid None = None
-counted valid (Some code) = (if valid code then Some code else None)
+counted valid (Some code) = if valid code then Some code else None
 
 abbrev pub valid_grades : (ℕ → Bool) → Meaning → ℕ → ℕ → Option ℕ
 valid_grades valid m k j = counted valid (m.grade k j)

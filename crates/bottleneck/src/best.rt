@@ -19,14 +19,14 @@ pub struct BestMatching {
 
 // Of the grades that are valid in the kind, or a set that is short where there is none.
 pub fn best_matching<R: Reading, K: Kind>(grades: &R) -> Result<BestMatching, Members>
-    ensures { Found K.valid K.above (valid_grades K.valid (R.meaning grades.now)) (R.meaning grades.now).packages (R.meaning grades.now).translators result }
+    ensures { let m = R.meaning grades.now in Found K.valid K.above (valid_grades K.valid m) m.packages m.translators result }
 {
-    let table = Table::<K>::read(grades);
-    let mut best = match_all(&table)?;
-    let counted = AtFloor {
-        table: &table,
-        floor: Some(best.lowest),
+    let mut counted = AtFloor {
+        table: Table::<K>::read(grades),
+        floor: None,
     };
-    best.owners.place_all_first(&counted, table.packages);
+    let mut best = match_all(&mut counted)?;
+    let packages = counted.table.packages;
+    best.owners.place_all_first(&counted, packages);
     Ok(best)
 }

@@ -1,6 +1,6 @@
 // One package after another gets a translator; where one is left over, the floor under the grades
 // is lowered as little as that asks for.
-ghost use Rattle.std.specs.Prelude.{◌≡◌, ℕ, ◌+◌, ◌<◌, ◌≤◌, Some, MatchResult, IfOk, IfErr};
+ghost use Rattle.std.specs.Prelude.{◌≡◌, ℕ, ◌+◌, ◌<◌, ◌≤◌, None, Some, MatchResult, IfOk, IfErr};
 ghost use Rattle.augmenting.specs.Assigned.{Complete};
 ghost use Rattle.augmenting.specs.Owners.{seen};
 ghost use Rattle.augmenting.specs.Sets.{OneFewer};
@@ -20,18 +20,28 @@ pub(crate) struct Floor {
     tight: Members,
 }
 
-impl<'t, K: Kind> AtFloor<'t, K> {
+impl<K: Kind> AtFloor<K> {
     // Lowers the floor to the highest grade that leads out of the set of a package left over, or
     // answers the set, which is short, where there is no such grade.
-    fn lower(&self, pkg: u8, owners: &Owners, visited: &[bool; 64]) -> Result<Floor, Members>
-        requires within { (0 < pkg) × (pkg ≤ self.now.table.now.packages) }
-        requires before { PlacedBefore (at_floor K.above self.now.table.now.codes self.now.floor) self.now.table.now.translators pkg owners.now.places }
-        requires left { IsLeftOver (at_floor K.above self.now.table.now.codes self.now.floor) self.now.table.now.translators pkg owners.now.places visited.now }
-        ensures { MatchResult result (λ lower. Lowered K.valid K.above self.now.table.now.codes self.now.table.now.packages self.now.table.now.translators self.now.floor (Some lower.code) lower.tight.places) (λ short. OneFewer (graded (table_grades self.now.table.now.codes)) self.now.table.now.packages self.now.table.now.translators (seen short.places)) }
+    fn lower(&mut self, pkg: u8, owners: &Owners, visited: &[bool; 64]) -> Result<Floor, Members>
+        requires within { (0 < pkg) × (pkg ≤ self.old.table.packages) }
+        requires before { let table = self.old.table in
+            PlacedBefore (at_floor K.above table.codes self.old.floor) table.translators pkg owners.now.places }
+        requires left { let table = self.old.table in
+            IsLeftOver (at_floor K.above table.codes self.old.floor) table.translators pkg owners.now.places visited.now }
+        ensures table { self.new.table ≡ self.old.table }
+        ensures floor { IfOk result (λ lower. self.new.floor ≡ Some lower.code) }
+        ensures set { let table = self.old.table in
+            MatchResult result
+            (λ lower. Lowered K.valid K.above table.codes table.packages table.translators self.old.floor (Some lower.code) lower.tight.places)
+            (λ short. OneFewer (graded (table_grades table.codes)) table.packages table.translators (seen short.places)) }
     {
         let set = Members::owners_and(pkg, owners, visited);
         match self.table.highest(&set, visited) {
-            Some(code) => Ok(Floor { code, tight: set }),
+            Some(code) => {
+                self.floor = Some(code);
+                Ok(Floor { code, tight: set })
+            }
             None => Err(set),
         }
     }
@@ -39,26 +49,30 @@ impl<'t, K: Kind> AtFloor<'t, K> {
 
 // Gives one package more a translator, and lowers the floor for it as often as that takes.
 fn place<K: Kind>(
-    table: &Table<K>,
+    counted: &mut AtFloor<K>,
     pkg: u8,
     start: Floor,
     owners: &mut Owners,
 ) -> Result<Floor, Members>
-    requires within { (0 < pkg) × (pkg ≤ table.now.packages) }
-    requires tight { TightAt K.valid K.above (table_grades table.now.codes) table.now.packages table.now.translators (Some start.code) start.tight.places }
-    requires before { PlacedBefore (at_floor K.above table.now.codes (Some start.code)) table.now.translators pkg owners.old.places }
-    ensures tight { IfOk result (λ floor. TightAt K.valid K.above (table_grades table.now.codes) table.now.packages table.now.translators (Some floor.code) floor.tight.places) }
-    ensures placed { IfOk result (λ floor. PlacedBefore (at_floor K.above table.now.codes (Some floor.code)) table.now.translators (pkg + 1) owners.new.places) }
-    ensures short { IfErr result (λ short. OneFewer (graded (table_grades table.now.codes)) table.now.packages table.now.translators (seen short.places)) }
+    requires within { (0 < pkg) × (pkg ≤ counted.old.table.packages) }
+    requires floor { counted.old.floor ≡ Some start.code }
+    requires tight { let table = counted.old.table in
+        TightAt K.valid K.above (table_grades table.codes) table.packages table.translators (Some start.code) start.tight.places }
+    requires before { let table = counted.old.table in
+        PlacedBefore (at_floor K.above table.codes (Some start.code)) table.translators pkg owners.old.places }
+    ensures table { counted.new.table ≡ counted.old.table }
+    ensures floor { IfOk result (λ floor. counted.new.floor ≡ Some floor.code) }
+    ensures tight { let table = counted.old.table in IfOk result (λ floor.
+        TightAt K.valid K.above (table_grades table.codes) table.packages table.translators (Some floor.code) floor.tight.places) }
+    ensures placed { let table = counted.old.table in IfOk result (λ floor.
+        PlacedBefore (at_floor K.above table.codes (Some floor.code)) table.translators (pkg + 1) owners.new.places) }
+    ensures short { let table = counted.old.table in IfErr result (λ short.
+        OneFewer (graded (table_grades table.codes)) table.packages table.translators (seen short.places)) }
 {
     let mut floor = start;
     loop {
-        let counted = AtFloor {
-            table,
-            floor: Some(floor.code),
-        };
         let mut visited = [false; 64];
-        if owners.augment(&counted, pkg, &mut visited) {
+        if owners.augment(counted, pkg, &mut visited) {
             return Ok(floor);
         }
         floor = counted.lower(pkg, owners, &visited)?;
@@ -67,14 +81,22 @@ fn place<K: Kind>(
 
 // Gives every package a translator at the highest floor at which all can have one, or answers a
 // short set where there is no such floor.
-pub(crate) fn match_all<K: Kind>(table: &Table<K>) -> Result<BestMatching, Members>
-    ensures { MatchResult result (λ best. TightAt K.valid K.above (table_grades table.now.codes) table.now.packages table.now.translators (Some best.lowest) best.tight.places × Complete (at_floor K.above table.now.codes (Some best.lowest)) table.now.packages table.now.translators best.owners.places) (λ short. OneFewer (graded (table_grades table.now.codes)) table.now.packages table.now.translators (seen short.places)) }
+pub(crate) fn match_all<K: Kind>(counted: &mut AtFloor<K>) -> Result<BestMatching, Members>
+    requires { counted.old.floor ≡ None }
+    ensures table { counted.new.table ≡ counted.old.table }
+    ensures floor { IfOk result (λ best. counted.new.floor ≡ Some best.lowest) }
+    ensures set { let table = counted.old.table in let grades = table_grades table.codes in
+        MatchResult result
+        (λ best.
+        TightAt K.valid K.above grades table.packages table.translators (Some best.lowest) best.tight.places
+        × Complete (at_floor K.above table.codes (Some best.lowest)) table.packages table.translators best.owners.places)
+        (λ short. OneFewer (graded grades) table.packages table.translators (seen short.places)) }
 {
     let mut owners = Owners::none();
     // without a floor no pair counts, so that package 1 is left over
-    let mut floor = AtFloor { table, floor: None }.lower(1, &owners, &[false; 64])?;
-    for i in 0..table.packages {
-        floor = place(table, i + 1, floor, &mut owners)?;
+    let mut floor = counted.lower(1, &owners, &[false; 64])?;
+    for i in 0..counted.table.packages {
+        floor = place(counted, i + 1, floor, &mut owners)?;
     }
     Ok(BestMatching {
         owners,

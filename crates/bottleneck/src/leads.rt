@@ -24,7 +24,8 @@ impl<K: Kind> Table<K> {
         requires few { pkg ≤ 48 }
         requires right { Valid K.valid before }
         ensures best { HighestInRow K.valid K.above (table_grades self.now.codes) self.now.translators pkg visited.now before result }
-        ensures from { (code : ℕ) → result ≡ Some code → (before ≡ Some code) ⊎ ((j : ℕ) × (j < self.now.translators) × (seen visited.now j ≡ false) × (table_grades self.now.codes pkg (j + 1) ≡ Some code)) }
+        ensures from { (code : ℕ) → result ≡ Some code → (before ≡ Some code)
+            ⊎ ((j : ℕ) × (j < self.now.translators) × (seen visited.now j ≡ false) × (table_grades self.now.codes pkg (j + 1) ≡ Some code)) }
     {
         let mut best = before;
         for (code, is_marked) in self.row(pkg).iter().zip(visited) {

@@ -1,6 +1,6 @@
 -- Where everything stands in a saved file: a count of two bytes, one record of three bytes, a second
 -- count, and grade records of six bytes each. Numbers of several bytes have the low byte first.
-use Rattle.std.specs.Prelude.{ℕ, ◌+◌, ◌*◌, Bool, true, cond, ◌&&◌, ◌||◌, List, length, drop, Some, None, Option, ◌==◌, nat_le, nat_lt, slice_index}
+use Rattle.std.specs.Prelude.{ℕ, ◌+◌, ◌*◌, Bool, true, if◌then◌else◌, ◌&&◌, ◌||◌, List, length, drop, Some, None, Option, ◌==◌, nat_le, nat_lt, slice_index}
 use Rattle.file_format.specs.declared.records.GradeRecord.{GradeRecord}
 use Rattle.file_format.specs.declared.records.SheetRecord.{SheetRecord}
 
@@ -51,4 +51,4 @@ after (Some y) x = before y.pkg y.translator x.pkg x.translator
 
 -- the last of the first n records
 abbrev pub last_of : List ℕ → ℕ → Option GradeRecord
-last_of bs n = cond (n == 0) None (Some (record_in bs n))
+last_of bs n = if n == 0 then None else Some (record_in bs n)

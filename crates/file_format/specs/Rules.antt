@@ -1,5 +1,5 @@
 -- The rules of a saved file, part by part, and the one fault of a file that breaks one.
-use Rattle.std.specs.Prelude.{◌≡◌, ℕ, ◌+◌, ◌-◌, ◌<◌, ◌≤◌, Bool, cond, ◌&&◌, List, [], ◌∷◌, length, drop, Some, None, Ok, Err, Option, Result, ◌==◌, nat_le}
+use Rattle.std.specs.Prelude.{◌≡◌, ℕ, ◌+◌, ◌-◌, ◌<◌, ◌≤◌, Bool, if◌then◌else◌, ◌&&◌, List, [], ◌∷◌, length, drop, Some, None, Ok, Err, Option, Result, ◌==◌, nat_le}
 use Rattle.books.specs.Limits.{inside}
 use Rattle.refusals.specs.Faults.{fault_at}
 use Rattle.refusals.specs.declared.fault.Cause.{Cause}
@@ -70,7 +70,7 @@ rules e bs the_end = end_rules bs
 -- the cause of the first rule that is broken, or none
 abbrev pub first_broken : List (Cause × Bool) → Option Cause
 first_broken [] = None
-first_broken (rule ∷ others) = cond rule.1 (first_broken others) (Some rule.0)
+first_broken (rule ∷ others) = if rule.1 then first_broken others else Some rule.0
 
 -- the section, the record (0 for a count) and the offset that a fault in a part tells
 abbrev pub section_of : Part → ℕ

@@ -1,5 +1,5 @@
 -- Each record of a right file is taken, and after the last the grades of the file stand.
-use Rattle.std.proofs.Common.{◌≡◌, ℕ, zero, suc, ◌+◌, ◌<◌, ◌≤◌, Bool, false, cond, not, ◌&&◌, eqb, leb, List, length, is_some, Ok, sym, refl, ap, ◌∙◌, add-one, arith}
+use Rattle.std.proofs.Common.{◌≡◌, ℕ, zero, suc, ◌+◌, ◌≤◌, Bool, false, not, if◌then◌else◌, ◌&&◌, ◌==◌, nat_le, ◌-◌, List, length, is_some, Ok, sym, refl, ap, ◌∙◌, add-one, subst, arith}
 use Rattle.books.proofs.Outcomes.{put_accepted, put_makes}
 use Rattle.books.specs.Changes.{put_after, put_answer}
 use Rattle.books.specs.Meaning.{Empty, Meaning, count}
@@ -34,8 +34,8 @@ module _ (number : ℕ) (valid : ℕ → Bool) (limit : ℕ) (m : Meaning) (bs :
       let a = (record_in bs (suc n)).pkg in
       let b = (record_in bs (suc n)).translator in
       let c = (record_in bs (suc n)).code in
-      let room : (not (is_some (grades_upto bs n a b)) && eqb (count (listed n)) limit) ≡ false =
-      and_right (not (is_some (grades_upto bs n a b))) (eqb (count (listed n)) limit)
+      let room : (not (is_some (grades_upto bs n a b)) && (count (listed n) == limit)) ≡ false =
+      and_right (not (is_some (grades_upto bs n a b))) (count (listed n) == limit)
       (ne_eqb (count (listed n)) limit (λ e. omega (arith, e, u.stand, l, h))) in
       let ok : put_answer limit (listed n) a b c ≡ Ok tt =
       put_accepted limit (listed n) a b c w.placed (λ e. true≢false (sym w.coded ∙ ap valid e ∙ z)) room in
@@ -55,11 +55,13 @@ pub records_are_the_grades : RecordsAreTheGrades
 records_are_the_grades number valid limit m bs B R z E h = all number valid limit m bs B R z E h
 
 pub one_step :
-    (limit : ℕ) (m : Meaning) (bs : List ℕ) (n c : ℕ) (q r : Meaning) → q ≡ with_records limit m bs n → n < c
-    → r ≡ cond (leb 1 (n + 1) && leb (n + 1) c) (with_record limit q bs (n + 1)) q
-    → r ≡ with_records limit m bs (n + 1)
-one_step limit m bs n c q r e l h =
+    (limit : ℕ) (m : Meaning) (bs : List ℕ) (n c : ℕ) (q r : Meaning) → q ≡ with_records limit m bs (n - 1)
+    → 1 ≤ n → n ≤ c → r ≡ (if nat_le 1 n && nat_le n c then with_record limit q bs n else q)
+    → r ≡ with_records limit m bs n
+one_step limit m bs n c q r e l k h =
+    let same : n - 1 + 1 ≡ n = omega arith in
     h
-    ∙ cond-true (leb 1 (n + 1) && leb (n + 1) c) (with_record limit q bs (n + 1)) q
-    (and_from (leb 1 (n + 1)) (leb (n + 1) c) (le-leb 1 (n + 1) (omega arith)) (le-leb (n + 1) c (omega arith)))
-    ∙ ap (λ x. with_record limit x bs (n + 1)) e ∙ sym (with_more limit m bs n)
+    ∙ cond-true (nat_le 1 n && nat_le n c) (with_record limit q bs n) q
+    (and_from (nat_le 1 n) (nat_le n c) (le-leb 1 n l) (le-leb n c k))
+    ∙ ap (λ x. with_record limit x bs n) e
+    ∙ sym (subst (λ i. with_records limit m bs i ≡ with_record limit (with_records limit m bs (n - 1)) bs i) same (with_more limit m bs (n - 1)))

@@ -1,6 +1,6 @@
 -- What a book means after the grade records of a file have been put into it, and that these are the
 -- grades of the file where the file is right and the book was empty.
-use Rattle.std.specs.Prelude.{◌≡◌, ℕ, zero, suc, ◌≤◌, Bool, false, cond, List}
+use Rattle.std.specs.Prelude.{◌≡◌, ℕ, zero, suc, ◌≤◌, Bool, false, if◌then◌else◌, List}
 use Rattle.books.specs.Changes.{put_after}
 use Rattle.books.specs.Meaning.{Empty, Meaning}
 use Rattle.file_format.specs.FileOf.{grade_in}
@@ -11,8 +11,9 @@ use Rattle.file_format.specs.Rules.{Right, just}
 -- one record, if it stands there whole
 abbrev pub with_record : ℕ → Meaning → List ℕ → ℕ → Meaning
 with_record limit m bs r =
-    cond (whole bs (start_of r) 6)
-    (put_after limit m (record_in bs r).pkg (record_in bs r).translator (record_in bs r).code) m
+    if whole bs (start_of r) 6
+    then put_after limit m (record_in bs r).pkg (record_in bs r).translator (record_in bs r).code
+    else m
 
 -- the first n records, one after the other
 unfoldable pub with_records : ℕ → Meaning → List ℕ → ℕ → Meaning

@@ -25,7 +25,7 @@ pub fn put_records<B: Book>(file: &CheckedFile<'_>, book: &mut B)
     ensures after { B.Reading.meaning book.new ≡ with_records B.LIMIT (B.Reading.meaning book.old) file.now.file.now file.now.count }
     ensures grades { RecordsAreTheGrades }
 {
-    for done in 0..file.count() {
-        put_record(file, done + 1, book);
+    for number in 1..=file.count() {
+        put_record(file, number, book);
     }
 }

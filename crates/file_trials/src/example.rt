@@ -1,5 +1,6 @@
 // Points, two packages, two translators, and the grades (1, 1) = 700, (1, 2) = 400, (2, 1) = 650.
 use books::{Book, Reading, Sizes};
+use file_format::GradeRecord;
 use file_loading::put_records;
 use grades::Points;
 use list_book::ListBook;
@@ -16,10 +17,7 @@ pub const EXAMPLE: [u8; 25] = [
 
 // What is wrong with a file of points, if anything is.
 pub fn told(file: &[u8], packages: u32, translators: u32) -> Result<Option<Fault>, Refusal> {
-    match check_file::<Points>(file, Sizes::check(packages, translators)?) {
-        Ok(_) => Ok(None),
-        Err(fault) => Ok(Some(fault)),
-    }
+    Ok(check_file::<Points>(file, Sizes::check(packages, translators)?).err())
 }
 
 // The same of its first bytes alone.
@@ -32,20 +30,24 @@ pub fn told_front(
     told(&file[..length.min(file.len())], packages, translators)
 }
 
-fn begins_with(buffer: &[u8], file: &[u8]) -> bool {
-    buffer.len() >= file.len() && &buffer[..file.len()] == file
-}
-
 #[test]
 fn example_is_read(rt: HostRuntime) -> Result<(), Fail> {
     let Ok(file) = check_file::<Points>(&EXAMPLE, Sizes::check(2, 2)?) else {
         return Err(Fail::new("refused"));
     };
     assert_eq!(rt; file.count(), 3);
-    let second = file.record(2).ok_or("no second record")?;
-    assert!(rt; second.pkg == 1 && second.translator == 2 && second.code == 400);
-    let third = file.record(3).ok_or("no third record")?;
-    assert!(rt; third.pkg == 2 && third.translator == 1 && third.code == 650);
+    let second = GradeRecord {
+        pkg: 1,
+        translator: 2,
+        code: 400,
+    };
+    assert_eq!(rt; file.record(2), Some(second));
+    let third = GradeRecord {
+        pkg: 2,
+        translator: 1,
+        code: 650,
+    };
+    assert_eq!(rt; file.record(3), Some(third));
     assert!(rt;
         file.record(0).is_none() && file.record(4).is_none(),
         "no such record"
@@ -67,7 +69,7 @@ fn example_is_written(rt: HostRuntime) -> Result<(), Fail> {
     assert!(rt; short == [7u8; 24], "as it was");
     let mut buffer = [7u8; 27];
     assert_eq!(rt; write_file::<Points, TableBook>(&book, &mut buffer), Ok(25));
-    assert!(rt; begins_with(&buffer, &EXAMPLE) && buffer[25] == 7 && buffer[26] == 7);
+    assert!(rt; buffer.starts_with(&EXAMPLE) && buffer[25] == 7 && buffer[26] == 7);
     Ok(())
 }
 
@@ -82,6 +84,6 @@ fn example_is_loaded(rt: HostRuntime) -> Result<(), Fail> {
     assert_eq!(rt; book.grade_of(2, 2), None);
     let mut buffer = [0u8; 25];
     assert_eq!(rt; write_file::<Points, ListBook>(&book, &mut buffer), Ok(25));
-    assert!(rt; begins_with(&buffer, &EXAMPLE), "the same bytes");
+    assert!(rt; buffer.starts_with(&EXAMPLE), "the same bytes");
     Ok(())
 }

@@ -12,8 +12,8 @@ const LONGER: [u8; 26] = [
 // What is wrong with the example after a change of one byte.
 fn with_byte(at: usize, byte: u8) -> Result<Option<Fault>, Refusal> {
     let mut file = EXAMPLE;
-    if at < 25 {
-        file[at] = byte;
+    if let Some(place) = file.get_mut(at) {
+        *place = byte;
     }
     told(&file, 2, 2)
 }

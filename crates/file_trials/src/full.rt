@@ -12,9 +12,9 @@ const LENGTH: usize = 18_439;
 // A grade for every pair, and the file of it with one byte to spare.
 fn full_file() -> Result<[u8; 18_440], Refusal> {
     let mut book = TableBook::new(Sizes::check(48, 64)?);
-    for pkg in 0..48u32 {
-        for translator in 0..64u32 {
-            book.put(pkg + 1, translator + 1, 1000)?;
+    for pkg in 1..=48 {
+        for translator in 1..=64 {
+            book.put(pkg, translator, 1000)?;
         }
     }
     let mut file = [0u8; 18_440];

@@ -1,14 +1,14 @@
 -- Ratings: the code is class + 256 × days of practice, with a class of 1 to 4 and at most 20,000
 -- days. The smaller class is above, and within a class more days are. No other code is above or
 -- below a rating.
-use Rattle.std.specs.Prelude.{ℕ, ◌/◌, ◌%◌, Bool, false, cond, ◌&&◌, ◌||◌, is_some, Some, None, Option, ◌==◌, nat_le, nat_lt}
+use Rattle.std.specs.Prelude.{ℕ, ◌/◌, ◌%◌, Bool, false, if◌then◌else◌, ◌&&◌, ◌||◌, is_some, Some, None, Option, ◌==◌, nat_le, nat_lt}
 use Rattle.grades.specs.declared.ratings.Rating.{Rating}
 
 abbrev pub rating_of : ℕ → Option Rating
 rating_of code =
-    cond (nat_le 1 (code % 256) && nat_le (code % 256) 4 && nat_le (code / 256) 20000)
-    (Some (record { class = code % 256; days = code / 256 }))
-    None
+    if nat_le 1 (code % 256) && nat_le (code % 256) 4 && nat_le (code / 256) 20000
+    then Some (record { class = code % 256; days = code / 256 })
+    else None
 
 abbrev pub valid_rating : ℕ → Bool
 valid_rating code = is_some (rating_of code)

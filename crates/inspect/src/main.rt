@@ -2,10 +2,7 @@
 // wrong with it and where.
 #![tactic(auto)]
 
-mod report;
-
-use report::{print_fault, print_file};
-use saved_file::check_by_itself;
+use saved_file::{CheckedFile, check_by_itself};
 use std::io;
 use std::io::Read;
 
@@ -17,6 +14,18 @@ fn main(rt: HostRuntime) -> io::Result<()> {
     rt.stdin().take(ENOUGH_BYTES).read_to_end(&mut file)?;
     match check_by_itself(&file) {
         Ok(checked) => print_file(&rt, &checked),
-        Err(fault) => print_fault(&rt, fault),
+        Err(fault) => println!(rt; "{fault}"),
     }
+}
+
+// A line for the kind and the sizes, and one for each grade.
+fn print_file(rt: &HostRuntime, file: &CheckedFile<'_>) -> io::Result<()> {
+    let count = file.count();
+    if let Some(sheet) = file.sheet_record() {
+        println!(rt; "{sheet}, grades {count}")?;
+    }
+    for found in (1..=count).filter_map(|number| file.record(number)) {
+        println!(rt; "{found}")?;
+    }
+    Ok(())
 }

@@ -20,7 +20,7 @@ pub struct BestPlan {
 // that shows that none has a higher one; or a set that shows that there is no full plan. A code
 // that is not valid in the kind counts as no grade.
 pub fn best_plan<R: Reading, K: Kind>(grades: &R) -> Result<BestPlan, Members>
-    ensures { Right K.above (valid_grades K.valid (R.meaning grades.now)) (R.meaning grades.now).packages (R.meaning grades.now).translators result }
+    ensures { let m = R.meaning grades.now in Right K.above (valid_grades K.valid m) m.packages m.translators result }
 {
     let best = best_matching::<R, K>(grades)?;
     Ok(BestPlan {

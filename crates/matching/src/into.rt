@@ -35,7 +35,8 @@ pub fn match_into<R: Reading, K: Kind>(
     plan: &mut [u16],
     set: &mut [u8],
 ) -> Result<Option<Planned>, Refusal>
-    ensures { Answered K.above (valid_grades K.valid (R.meaning grades.now)) (R.meaning grades.now).packages (R.meaning grades.now).translators plan.old set.old plan.new set.new result }
+    ensures { let m = R.meaning grades.now in
+        Answered K.above (valid_grades K.valid m) m.packages m.translators plan.old set.old plan.new set.new result }
 {
     let packages = grades.packages();
     let room = plan.len().min(set.len());

@@ -4,7 +4,8 @@ ghost use Rattle.std.specs.Prelude.{◌≡◌, ℕ, ◌<◌, ◌≤◌, length, 
 mod owned;
 mod reads;
 
-// At place k the number, from 1, of the translator of package k + 1.
+// At place k the number, from 1, of the translator of package k + 1. An array with its length beside
+// it, since a plan is copied and an `ArrayVec` is not.
 #[derive(Clone, Copy)]
 pub struct Plan {
     packages: u8,

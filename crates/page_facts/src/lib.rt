@@ -13,66 +13,52 @@ ghost use Rattle.page_facts.specs.Rights.{RolesByTheTable};
 ghost use Rattle.page_facts.specs.Slips.{DrawnPlansAreOut, LastSlipDecides, OtherLinesLeaveThePublished, OtherLinesLeaveTheSlip, ShortDrawsHandOutNone, ShownAsDrawn, SlipsComeFromDraws, SpentSlipsAreGone};
 ghost use Rattle.page_facts.specs.Witness.{ThereIsAPage};
 
-pub fn limit_is_kept() -> u8
+pub fn limit_is_kept()
     ensures { LimitIsKept }
-{
-    0
-}
+{}
 
 // What stands right after a line, and which line a standing grade comes from.
-pub fn standing_grades() -> u8
+pub fn standing_grades()
     ensures graded { GradedPairsStand }
     ensures struck { StruckPairsAreFree }
     ensures loaded { LoadedGradesStand }
     ensures others { OtherLinesLeaveTheGrades }
     ensures again { RegradedPairsStand }
     ensures last { LastLineDecides }
-{
-    0
-}
+{}
 
-pub fn slips() -> u8
+pub fn slips()
     ensures out { DrawnPlansAreOut }
     ensures spent { SpentSlipsAreGone }
     ensures short { ShortDrawsHandOutNone }
     ensures source { SlipsComeFromDraws }
     ensures others { OtherLinesLeaveTheSlip }
     ensures last { LastSlipDecides }
-{
-    0
-}
+{}
 
 // Of the words in which slips are counted, and of the history after more lines.
-pub fn counted_lines() -> u8
+pub fn counted_lines()
     ensures counts { SlipCounts }
     ensures newest { NewestLineFirst }
-{
-    0
-}
+{}
 
-pub fn published_plans() -> u8
+pub fn published_plans()
     ensures others { OtherLinesLeaveThePublished }
     ensures shown { ShownAsDrawn }
-{
-    0
-}
+{}
 
-pub fn alike_answers() -> u8
+pub fn alike_answers()
     ensures agree { AlikeAnswersAgree }
     ensures equivalence { Equivalence }
     ensures lines { AlikeLineByLine }
-{
-    0
-}
+{}
 
-pub fn roles_by_the_table() -> u8
+pub fn roles_by_the_table()
     ensures { RolesByTheTable }
-{
-    0
-}
+{}
 
 // Where several reasons hold at once.
-pub fn reasons_in_order() -> u8
+pub fn reasons_in_order()
     ensures slip_out { SlipOutFirst }
     ensures wrong_slip { WrongSlips }
     ensures grade { GradeLinesInOrder }
@@ -80,45 +66,35 @@ pub fn reasons_in_order() -> u8
     ensures load { LoadsInOrder }
     ensures draw { DrawsNeedRoom }
     ensures show { ShowsInOrder }
-{
-    0
-}
+{}
 
 // With all of it given, a call is not refused.
-pub fn good_lines_are_accepted() -> u8
+pub fn good_lines_are_accepted()
     ensures grade { GoodGrades }
     ensures strike { GoodStrikes }
     ensures load { GoodLoads }
     ensures draw { GoodDraws }
     ensures slip { GoodSlips }
     ensures show { GoodShows }
-{
-    0
-}
+{}
 
 // What the two buffers of a line hold after it.
-pub fn buffers_in_words() -> u8
+pub fn buffers_in_words()
     ensures later { LaterPlacesNeverChange }
     ensures little { WritesLittle }
     ensures drawn { DrawnLinesInWords }
     ensures short { ShortLinesInWords }
-{
-    0
-}
+{}
 
 // The file that the rules spell out byte by byte.
-pub fn worked_file() -> u8
+pub fn worked_file()
     ensures whole { WorkedFile }
     ensures damaged { DamagedFiles }
     ensures places { BytesInTheirPlaces }
-{
-    0
-}
+{}
 
 // A page of eleven lines with every call and every kind of outcome: what holds of every page holds of
 // some.
-pub fn there_is_a_page() -> u8
+pub fn there_is_a_page()
     ensures { ThereIsAPage }
-{
-    0
-}
+{}

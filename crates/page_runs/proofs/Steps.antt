@@ -1,21 +1,21 @@
 -- One command run on the sheet leaves a sheet on which the history has grown by it.
-use Rattle.std.proofs.Common.{◌≡◌, ℕ, Bool, true, false, not, ◌&&◌, List, ◌∷◌, ◌++◌, is_some, IfOk, Some, None, Option, Result, sym, refl, ap, ◌∙◌, subst}
+use Rattle.std.proofs.Common.{◌≡◌, ℕ, Bool, true, false, not, ◌&&◌, List, ◌∷◌, ◌++◌, is_some, length, take, arith, IfOk, Some, None, Option, Result, sym, refl, ap, ◌∙◌, subst}
 use Rattle.grades.specs.declared.points.Points.{Points}
 use Rattle.page_runs.proofs.Carry.{Held, carried, closing}
 use Rattle.page_runs.specs.Asks.{opening_with, asks, line_for, told_as, event}
-use Rattle.page_runs.specs.Live.{opening_at, standing_at, tag_in, Live, Closed}
+use Rattle.page_runs.specs.Live.{opening_at, standing_at, tag_in, Live, NoCall, Closed}
 use Rattle.page_runs.specs.Output.{Tells}
 use Rattle.page_runs.specs.Slips.{slip_for, Gives}
 use Rattle.page_text.specs.Commands.{Said}
 use Rattle.page_text.specs.Replies.{Told, line_of}
 use Rattle.pages.proofs.Calls.{never_some}
 use Rattle.pages.specs.Answers.{Page, Ran}
-use Rattle.pages.specs.Lines.{Opening, Line, Answer, Event, Call}
+use Rattle.pages.specs.Lines.{Opening, Line, Answer, Event, Call, Outcome}
 use Rattle.pages.specs.Reasons.{slip_of}
 use Rattle.pages.specs.Standing.{Drawn, first_of, out_at}
 use Rattle.sheet.specs.declared.sheet.Sheet.{Sheet}
 use Rattle.sheet.specs.declared.slip.Slip.{Slip}
-use Rattle.std.specs.declared.fmt.Error.{Error}
+use Rattle.std.proofs.lemmas.List.{take_all}
 use Rattle.table_book.specs.declared.table_book.TableBook.{TableBook}
 
 some_tags : (s : Option Slip) → is_some (tag_in s) ≡ is_some s
@@ -66,6 +66,17 @@ lacks p t h s held c l live none e w =
     both_hold true (Some d) q r = absurd (never_some 1 (sym r))
     both_hold false out q r = q
 
+-- a command that is not called leaves all as it was
+pub not_called :
+    (p t : ℕ) (h : List Event) (s : Sheet TableBook Points) (held kept : Option Slip) (c : Said) (told : Told) → Live p t h s held
+    → NoCall c held told kept → Live p t h s kept × Tells (opening_with p t) h c told h
+not_called p t h s held kept c told live (NoCall.bad_line a b d) =
+    (subst (Live p t h s) (sym d) live, Tells.bad_line a b refl)
+not_called p t h s held kept c told live (NoCall.no_slip l a b d e f) = (
+  subst (Live p t h s) (e ∙ sym f) live,
+  subst (λ (x : Told). Tells (opening_with p t) h c x h) (sym d) (lacks p t h s held c l live e a b),
+)
+
 some_out : (out : Option Drawn) (tag : ℕ) → slip_for out ≡ Some tag → is_some out ≡ true
 some_out None tag e = absurd (never_some tag e)
 some_out (Some d) tag e = refl
@@ -75,9 +86,17 @@ own_tag None tag e = absurd (never_some tag e)
 own_tag (Some d) tag e = cc
 
 pub told_at :
-    (r : Result (Unit {0}) Error) (before after : List ℕ) (x y : Told) → x ≡ y → IfOk r (λ (_ : Unit {0}). after ≡ before ++ line_of x)
-    → IfOk r (λ (_ : Unit {0}). after ≡ before ++ line_of y)
-told_at r before after x y e m = subst (λ (z : Told). IfOk r (λ (_ : Unit {0}). after ≡ before ++ line_of z)) e m
+    {E : Type 0} (r : Result (Unit {0}) E) (before after : List ℕ) (x y : Told) → x ≡ y
+    → IfOk r (λ (_ : Unit {0}). after ≡ before ++ line_of x) → IfOk r (λ (_ : Unit {0}). after ≡ before ++ line_of y)
+told_at {E} r before after x y e m = subst (λ (z : Told). IfOk r (λ (_ : Unit {0}). after ≡ before ++ line_of z)) e m
+
+-- what is told of the first p places of a plan buffer alone
+pub told_cut : (p : ℕ) (o : Outcome) (plan : List ℕ) → told_as (length (take p plan)) o (take p plan) ≡ told_as p o plan
+told_cut p Outcome.done plan = refl
+told_cut p (Outcome.drawn code) plan = ap (Told.drawn code) (take_all (length (take p plan)) (take p plan) (omega arith))
+told_cut p Outcome.short plan = refl
+told_cut p (Outcome.shown code) plan = ap (Told.shown code) (take_all (length (take p plan)) (take p plan) (omega arith))
+told_cut p (Outcome.refused r) plan = refl
 
 -- the withdraw at the end
 module _ (p t : ℕ) (h : List Event) (s after : Sheet TableBook Points) (held : Option Slip) (slip : Slip) (l : Line) (a : Answer)

@@ -1,5 +1,4 @@
 pub mod Asks
 pub mod Live
 pub mod Output
-pub mod Remarks
 pub mod Slips

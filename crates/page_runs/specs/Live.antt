@@ -1,20 +1,22 @@
 -- The sheet of the page program after a history, with the slip that the program holds beside it.
-use Rattle.std.specs.Prelude.{◌≡◌, ℕ, Bool, true, false, List, ◌∷◌, replicate, is_some, Some, None, Option}
+use Rattle.std.specs.Prelude.{◌≡◌, ℕ, Bool, true, false, List, ◌∷◌, replicate, is_some, Ok, Err, Result, Some, None, Option}
 use Rattle.grades.specs.Points.{valid_points, above_points}
 use Rattle.grades.specs.declared.points.Points.{Points}
 use Rattle.page_runs.specs.Asks.{opening_with, asks, line_for, event}
 use Rattle.page_runs.specs.Slips.{slip_for, Gives}
-use Rattle.page_runs.specs.declared.step.Put.{Put}
-use Rattle.page_runs.specs.declared.step.Put.TheVariants as put
 use Rattle.page_text.specs.Commands.{Said}
+use Rattle.page_text.specs.Replies.{Told, told_of}
+use Rattle.page_text.specs.declared.reply.Reply.{Reply}
 use Rattle.pages.specs.Answers.{Page, Ran}
 use Rattle.pages.specs.Lines.{Opening, Line, Answer, Event, Call, Outcome}
 use Rattle.pages.specs.Reasons.{slip_of}
 use Rattle.pages.specs.Standing.{Standing, out_at}
 use Rattle.sheet.specs.Lines.{asked_of}
 use Rattle.sheet.specs.Sheets.{opening_of, standing_of}
+use Rattle.sheet.specs.declared.page.Call as sheet
 use Rattle.sheet.specs.declared.sheet.Sheet.{Sheet}
 use Rattle.sheet.specs.declared.slip.Slip.{Slip}
+use Rattle.std.specs.Borrow.{Bor}
 use Rattle.std.specs.Option.{option_map}
 use Rattle.table_book.specs.Table.{table_meaning}
 use Rattle.table_book.specs.declared.table_book.TableBook.{TableBook}
@@ -38,13 +40,19 @@ abbrev pub Own : Option Slip → Type 0
 Own None = Unit {0}
 Own (Some s) = s.tag ≡ 1
 
--- What a command comes to: no call, a call without its slip, or the one call that it stands for.
-abbrev pub Puts : Said → Option Slip → Put → Type 0
-Puts c held (put.BadLine kept) = (line_for c ≡ None) × (kept ≡ held)
-Puts c held put.NoSlip = ((l : Line) × (line_for c ≡ Some l) × (is_some (slip_of l.call) ≡ true)) × (held ≡ None)
-Puts c held (put.Call line kept) =
+-- What is told of a command that is not called: it stands for no call, or its slip is not held.
+pub data NoCall (c : Said) (held : Option Slip) (t : Told) (kept : Option Slip) : Type 0 where
+  bad_line : line_for c ≡ None → t ≡ Told.bad_line → kept ≡ held → NoCall c held t kept
+  no_slip :
+      (l : Line) → line_for c ≡ Some l → is_some (slip_of l.call) ≡ true → t ≡ Told.no_slip → held ≡ None → kept ≡ None
+      → NoCall c held t kept
+
+-- What a command comes to: the one call that it stands for, or no call.
+abbrev pub Puts : Said → Option Slip → Result (sheet.Call Slip (Bor (List ℕ))) Reply → Option Slip → Type 0
+Puts c held (Ok line) kept =
     (line_for c ≡ Some (asked_of line (replicate 48 0) (replicate 48 0)))
     × Gives (slip_of (asked_of line (replicate 48 0) (replicate 48 0)).call) (tag_in held) (tag_in kept)
+Puts c held (Err reply) kept = NoCall c held (told_of reply) kept
 
 -- whether a slip was out at the end, and then its withdraw was accepted
 abbrev pub Closed : ℕ → ℕ → List Event → Bool → Type 0

@@ -6,4 +6,4 @@ mod run;
 mod step;
 mod telling;
 
-pub use run::answers;
+pub use run::{MOST_BYTES, answers};

@@ -1,22 +1,21 @@
 // A whole page.
-ghost use Rattle.std.specs.Prelude.{◌≡◌, ℕ, List, [], ◌++◌, IfOk, None, string_bytes, OnOk};
 ghost use Rattle.page_runs.specs.Asks.{opening_with};
 ghost use Rattle.page_runs.specs.Live.{Live};
 ghost use Rattle.page_runs.specs.Output.{Follows, Output, RulesDetermineTheOutput};
 ghost use Rattle.plain_text.specs.Lines.{left_of};
+ghost use Rattle.std.specs.Prelude.{◌≡◌, ℕ, List, [], ◌++◌, IfOk, None, string_bytes, OnOk};
 
 use super::calling::{answer_command, close};
-use super::telling::{Remark, tell_remark};
+use super::telling::tell;
 use books::Sizes;
 use grades::Points;
-use page_text::{Command, parse};
+use page_text::{Command, Reply, parse};
 use plain_text::Lines;
 use sheet::Sheet;
 use std::alloc::{AllocError, Global};
-use std::fmt;
 use table_book::TableBook;
 
-const MOST_BYTES: usize = 32_768;
+pub const MOST_BYTES: usize = 32_768;
 
 const TAG: u32 = 1;
 
@@ -24,26 +23,24 @@ const TAG: u32 = 1;
 fn open_sheet(sizes: Sizes) -> Sheet<TableBook, Points>
     ensures { Live sizes.packages sizes.translators [] result None }
 {
-    match Sheet::open(TableBook::new(sizes), TAG) {
-        Ok(sheet) => sheet,
-        Err(_) => unreachable(),
-    }
+    Sheet::open(TableBook::new(sizes), TAG).unwrap()
 }
 
 // The lines after the first. Where the output takes no more, a slip that is held is withdrawn all
 // the same.
 fn run_lines(
     out: &mut String,
-    sheet: Sheet<TableBook, Points>,
+    mut sheet: Sheet<TableBook, Points>,
     sizes: Sizes,
-    lines: &mut Lines<'_>,
-) -> fmt::Result
+    lines: Lines<'_>,
+) -> Result<(), AllocError>
     requires { Live sizes.packages sizes.translators [] sheet None }
-    ensures { OnOk result ((more : List ℕ) × (string_bytes out.new ≡ string_bytes out.old ++ more) × Follows (opening_with sizes.packages sizes.translators) [] (left_of lines.old) more) }
+    ensures { OnOk result ((more : List ℕ)
+        × (string_bytes out.new ≡ string_bytes out.old ++ more)
+        × Follows (opening_with sizes.packages sizes.translators) [] (left_of lines.entry) more) }
 {
-    let mut sheet = sheet;
     let mut held = None;
-    while let Some(line) = lines.next() {
+    for line in lines {
         let (kept, told) = answer_command(out, &mut sheet, sizes, held, parse(line));
         held = kept;
         if let Err(full) = told {
@@ -52,33 +49,35 @@ fn run_lines(
         }
     }
     if close(&mut sheet, held) {
-        tell_remark(out, Remark::Withdrawn)?;
+        tell(out, Reply::Withdrawn)?;
     }
     Ok(())
 }
 
-fn write_output(out: &mut String, input: &[u8]) -> fmt::Result
-    ensures { OnOk result ((more : List ℕ) × (string_bytes out.new ≡ string_bytes out.old ++ more) × Output input.now more) }
+fn write_output(out: &mut String, input: &[u8]) -> Result<(), AllocError>
+    ensures { OnOk result ((more : List ℕ)
+        × (string_bytes out.new ≡ string_bytes out.old ++ more)
+        × Output input.now more) }
 {
     if input.len() > MOST_BYTES {
-        return tell_remark(out, Remark::TooLong);
+        return tell(out, Reply::TooLong);
     }
-    let mut lines = Lines::of(input);
+    let mut lines = Lines::new(input);
     let Some(first) = lines.next() else {
-        return tell_remark(out, Remark::BadLine);
+        return tell(out, Reply::BadLine);
     };
     let Command::Open {
         packages,
         translators,
     } = parse(first)
     else {
-        return tell_remark(out, Remark::BadLine);
+        return tell(out, Reply::BadLine);
     };
     match Sizes::check(packages, translators) {
-        Err(refusal) => tell_remark(out, Remark::Refused(refusal)),
+        Err(refusal) => tell(out, Reply::Refused(refusal)),
         Ok(sizes) => {
-            tell_remark(out, Remark::Ok)?;
-            run_lines(out, open_sheet(sizes), sizes, &mut lines)
+            tell(out, Reply::Ok)?;
+            run_lines(out, open_sheet(sizes), sizes, lines)
         }
     }
 }
@@ -89,8 +88,6 @@ pub fn answers(heap: Global, input: &[u8]) -> Result<String, AllocError>
     ensures determined { RulesDetermineTheOutput }
 {
     let mut out = String::new(heap);
-    match write_output(&mut out, input) {
-        Ok(()) => Ok(out),
-        Err(_) => Err(AllocError),
-    }
+    write_output(&mut out, input)?;
+    Ok(out)
 }

@@ -1,8 +1,8 @@
 -- What a line of text says: a word and its numbers, one space before each number.
-use Rattle.std.specs.Prelude.{ℕ, cond, List, [], ◌∷◌, Some, None, codes, Option}
+use Rattle.std.specs.Prelude.{ℕ, if◌then◌else◌, List, [], ◌∷◌, Some, None, codes, Option, slice_index}
 use Rattle.page_text.specs.declared.command.Command.{Command}
 use Rattle.page_text.specs.declared.command.Command.TheVariants as command
-use Rattle.plain_text.specs.Numbers.{numerals, one_in, two_in, three_in, four_in}
+use Rattle.plain_text.specs.Numbers.{numerals, exactly}
 use Rattle.plain_text.specs.Pieces.{pieces}
 use Rattle.std.specs.Str.{bytes_eq}
 
@@ -31,22 +31,31 @@ said_of (command.Withdraw r) = Said.withdraws r
 said_of (command.Show r) = Said.shows r
 said_of (command.Unknown w) = Said.unknown w.now
 
--- the word w with the numbers that it takes, or a word that is not known
-abbrev pub with_numbers : {X : Type 0} → List ℕ → (X → Said) → Option X → Said
-with_numbers w f None = Said.unknown w
-with_numbers w f (Some x) = f x
+-- what a word says with n numbers after it; with others it is a word that is not known
+abbrev pub taken : List ℕ → (List ℕ → Said) → Option (List ℕ) → Said
+taken w f None = Said.unknown w
+taken w f (Some ns) = f ns
+
+abbrev pub with_numbers : ℕ → List ℕ → (List ℕ → Said) → Option (List ℕ) → Said
+with_numbers n w f ns = taken w f (exactly n ns)
 
 -- what a word says with the numbers after it
 abbrev pub said_with : List ℕ → Option (List ℕ) → Said
 said_with w ns =
-    cond (bytes_eq w (codes "open")) (with_numbers w (λ n. Said.opens n.0 n.1) (two_in ns))
-    (cond (bytes_eq w (codes "grade")) (with_numbers w (λ n. Said.grades n.0 n.1 n.2 n.3) (four_in ns))
-    (cond (bytes_eq w (codes "strike")) (with_numbers w (λ n. Said.strikes n.0 n.1 n.2) (three_in ns))
-    (cond (bytes_eq w (codes "draw")) (with_numbers w Said.draws (one_in ns))
-    (cond (bytes_eq w (codes "publish")) (with_numbers w Said.publishes (one_in ns))
-    (cond (bytes_eq w (codes "withdraw")) (with_numbers w Said.withdraws (one_in ns))
-    (cond (bytes_eq w (codes "show")) (with_numbers w Said.shows (one_in ns))
-    (Said.unknown w)))))))
+    if bytes_eq w (codes "open") then with_numbers 2 w (λ n. Said.opens (slice_index n 0) (slice_index n 1)) ns
+    else if bytes_eq w (codes "grade") then
+    with_numbers 4 w (λ n. Said.grades (slice_index n 0) (slice_index n 1) (slice_index n 2) (slice_index n 3)) ns
+    else if bytes_eq w (codes "strike") then with_numbers 3 w (λ n. Said.strikes (slice_index n 0) (slice_index n 1) (slice_index n 2)) ns
+    else if bytes_eq w (codes "draw") then with_numbers 1 w (λ n. Said.draws (slice_index n 0)) ns
+    else if bytes_eq w (codes "publish") then with_numbers 1 w (λ n. Said.publishes (slice_index n 0)) ns
+    else if bytes_eq w (codes "withdraw") then with_numbers 1 w (λ n. Said.withdraws (slice_index n 0)) ns
+    else if bytes_eq w (codes "show") then with_numbers 1 w (λ n. Said.shows (slice_index n 0)) ns
+    else Said.unknown w
+
+-- a command, or where there is none a word that is not known
+abbrev pub said_or : List ℕ → Option Command → Said
+said_or w None = Said.unknown w
+said_or w (Some c) = said_of c
 
 abbrev pub said_in : List (List ℕ) → Said
 said_in [] = Said.unknown []

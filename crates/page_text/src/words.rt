@@ -1,63 +1,65 @@
 // From a line to the command that it says.
-ghost use Rattle.page_text.specs.Commands.{said_of, said_by};
-ghost use Rattle.std.specs.Str.{bytes_eq};
+ghost use Rattle.page_text.specs.Commands.{said_by, said_of, said_or, said_with};
+ghost use Rattle.plain_text.specs.Numbers.{numerals};
+ghost use Rattle.plain_text.specs.Pieces.{pieces_in};
 ghost use Rattle.std.specs.Prelude.{◌≡◌};
 
 use super::Command;
-use plain_text::{first_piece, four_numbers, one_number, three_numbers, two_numbers};
-
-fn is_word(word: &[u8], text: &[u8]) -> bool
-    ensures { result ≡ bytes_eq word.now text.now }
-{
-    word == text
-}
+use plain_text::{first_piece, numbers};
 
 // A known word with other numbers than its own says nothing that is known.
 pub fn parse(line: &[u8]) -> Command<'_>
     ensures { said_of result ≡ said_by line.now }
 {
     let (word, after) = first_piece(line, b' ');
+    known(word, after).unwrap_or(Command::Unknown(word))
+}
+
+// What a known word says with its numbers.
+fn known<'a>(word: &[u8], after: Option<&[u8]>) -> Option<Command<'a>>
+    ensures { said_or word.now result ≡ said_with word.now (numerals (pieces_in 32 after.entry)) }
+{
     match word {
-        w if is_word(w, b"open") => match two_numbers(after) {
-            Some((packages, translators)) => Command::Open {
+        b"open" => {
+            let [packages, translators] = numbers::<2>(after)?;
+            Some(Command::Open {
                 packages,
                 translators,
-            },
-            None => Command::Unknown(word),
-        },
-        w if is_word(w, b"grade") => match four_numbers(after) {
-            Some((role, pkg, translator, code)) => Command::Grade {
+            })
+        }
+        b"grade" => {
+            let [role, pkg, translator, code] = numbers::<4>(after)?;
+            Some(Command::Grade {
                 role,
                 pkg,
                 translator,
                 code,
-            },
-            None => Command::Unknown(word),
-        },
-        w if is_word(w, b"strike") => match three_numbers(after) {
-            Some((role, pkg, translator)) => Command::Strike {
+            })
+        }
+        b"strike" => {
+            let [role, pkg, translator] = numbers::<3>(after)?;
+            Some(Command::Strike {
                 role,
                 pkg,
                 translator,
-            },
-            None => Command::Unknown(word),
-        },
-        w if is_word(w, b"draw") => match one_number(after) {
-            Some(role) => Command::Draw { role },
-            None => Command::Unknown(word),
-        },
-        w if is_word(w, b"publish") => match one_number(after) {
-            Some(role) => Command::Publish { role },
-            None => Command::Unknown(word),
-        },
-        w if is_word(w, b"withdraw") => match one_number(after) {
-            Some(role) => Command::Withdraw { role },
-            None => Command::Unknown(word),
-        },
-        w if is_word(w, b"show") => match one_number(after) {
-            Some(role) => Command::Show { role },
-            None => Command::Unknown(word),
-        },
-        _ => Command::Unknown(word),
+            })
+        }
+        b"draw" => {
+            let [role] = numbers::<1>(after)?;
+            Some(Command::Draw { role })
+        }
+        b"publish" => {
+            let [role] = numbers::<1>(after)?;
+            Some(Command::Publish { role })
+        }
+        b"withdraw" => {
+            let [role] = numbers::<1>(after)?;
+            Some(Command::Withdraw { role })
+        }
+        b"show" => {
+            let [role] = numbers::<1>(after)?;
+            Some(Command::Show { role })
+        }
+        _ => None,
     }
 }

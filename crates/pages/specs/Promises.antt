@@ -1,6 +1,6 @@
 -- What holds over every page: how draws, publishes, withdraws and slips are counted, and that a
 -- refused line can be taken off without altering another answer.
-use Rattle.std.specs.Prelude.{◌≡◌, ℕ, ◌+◌, cond, List, [], ◌∷◌, ◌++◌, map, length, drop, is_some}
+use Rattle.std.specs.Prelude.{◌≡◌, ℕ, ◌+◌, if◌then◌else◌, List, [], ◌∷◌, ◌++◌, map, length, drop, is_some}
 use Rattle.pages.specs.Answers.{Page}
 use Rattle.pages.specs.Lines.{Opening, Line, Answer, Event, Call, Outcome}
 use Rattle.pages.specs.Standing.{out_at}
@@ -52,7 +52,7 @@ withdraws [] = 0
 withdraws (e ∷ above) = one_if_withdraw e.line.call (one_if_done e.answer.outcome) + withdraws above
 
 abbrev pub slips_out : ℕ → List Event → ℕ
-slips_out p h = cond (is_some (out_at p h)) 1 0
+slips_out p h = if is_some (out_at p h) then 1 else 0
 
 -- at every line, since the lines above a line of a page are a page
 abbrev pub EverySlipIsCounted : Type 0

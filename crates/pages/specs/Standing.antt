@@ -1,7 +1,7 @@
 -- What stands after a history, by the history alone: the grade of each pair, the drawn plan whose
 -- slip is out, and the published plan. A history lists its newest line first, so that the lines
 -- above a line are the rest of the list.
-use Rattle.std.specs.Prelude.{ℕ, cond, ◌&&◌, List, [], ◌∷◌, take, Some, None, Option, ◌==◌}
+use Rattle.std.specs.Prelude.{ℕ, if◌then◌else◌, ◌&&◌, List, [], ◌∷◌, take, Some, None, Option, ◌==◌}
 use Rattle.pages.specs.Lines.{Line, Answer, Event, Call, Outcome}
 use Rattle.file_format.specs.FileOf.{grade_in}
 
@@ -21,8 +21,8 @@ first_of None old = old
 -- what an accepted call makes of the grade of the pair i, j; a load is one grade line for each of
 -- its records
 abbrev pub regraded : Call → ℕ → ℕ → Option ℕ → Option ℕ
-regraded (Call.grade a b code) i j old = cond (i == a && j == b) (Some code) old
-regraded (Call.strike a b) i j old = cond (i == a && j == b) None old
+regraded (Call.grade a b code) i j old = if i == a && j == b then Some code else old
+regraded (Call.strike a b) i j old = if i == a && j == b then None else old
 regraded (Call.load file) i j old = first_of (grade_in file i j) old
 regraded Call.draw i j old = old
 regraded (Call.publish tag) i j old = old

@@ -1,2 +1,4 @@
 mod Cuts
-mod Digits
+mod Ends
+mod Parsed
+mod Rows

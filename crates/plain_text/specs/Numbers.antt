@@ -1,18 +1,12 @@
--- Numbers in a text: 1 to 9 digits each, and rows of one to four of them.
-use Rattle.std.specs.Prelude.{ℕ, ◌+◌, ◌-◌, ◌*◌, Bool, true, cond, ◌&&◌, List, [], ◌∷◌, length, Some, None, Option, nat_le}
-
-abbrev pub digits_only : List ℕ → Bool
-digits_only [] = true
-digits_only (b ∷ bs) = (nat_le 48 b && nat_le b 57) && digits_only bs
-
--- the number that n becomes with more digits after it
-abbrev pub value_after : ℕ → List ℕ → ℕ
-value_after n [] = n
-value_after n (b ∷ bs) = value_after (n * 10 + (b - 48)) bs
+-- Numbers in a text: 1 to 9 digits each, and rows of a given length of them.
+use Rattle.std.specs.Prelude.{ℕ, ◌&&◌, if◌then◌else◌, ◌==◌, List, [], ◌∷◌, length, Some, None, Option, nat_le}
+use Rattle.std.specs.Char.{is_ascii_digit}
+use Rattle.std.specs.List.{list_all}
+use Rattle.std.specs.Str.Parse.{digits_value}
 
 abbrev pub numeral_of : List ℕ → Option ℕ
 numeral_of bs =
-    cond ((nat_le 1 (length bs) && nat_le (length bs) 9) && digits_only bs) (Some (value_after 0 bs)) None
+    if (nat_le 1 (length bs) && nat_le (length bs) 9) && list_all is_ascii_digit bs then Some (digits_value 10 bs) else None
 
 abbrev pub first_of : Option ℕ → Option (List ℕ) → Option (List ℕ)
 first_of None ns = None
@@ -24,32 +18,7 @@ abbrev pub numerals : List (List ℕ) → Option (List ℕ)
 numerals [] = Some []
 numerals (w ∷ ws) = first_of (numeral_of w) (numerals ws)
 
-abbrev pub one_in : Option (List ℕ) → Option ℕ
-one_in None = None
-one_in (Some []) = None
-one_in (Some (a ∷ [])) = Some a
-one_in (Some (a ∷ b ∷ ns)) = None
-
-abbrev pub two_in : Option (List ℕ) → Option (ℕ × ℕ)
-two_in None = None
-two_in (Some []) = None
-two_in (Some (a ∷ [])) = None
-two_in (Some (a ∷ b ∷ [])) = Some (a, b)
-two_in (Some (a ∷ b ∷ c ∷ ns)) = None
-
-abbrev pub three_in : Option (List ℕ) → Option (ℕ × ℕ × ℕ)
-three_in None = None
-three_in (Some []) = None
-three_in (Some (a ∷ [])) = None
-three_in (Some (a ∷ b ∷ [])) = None
-three_in (Some (a ∷ b ∷ c ∷ [])) = Some (a, b, c)
-three_in (Some (a ∷ b ∷ c ∷ d ∷ ns)) = None
-
-abbrev pub four_in : Option (List ℕ) → Option (ℕ × ℕ × ℕ × ℕ)
-four_in None = None
-four_in (Some []) = None
-four_in (Some (a ∷ [])) = None
-four_in (Some (a ∷ b ∷ [])) = None
-four_in (Some (a ∷ b ∷ c ∷ [])) = None
-four_in (Some (a ∷ b ∷ c ∷ d ∷ [])) = Some (a, b, c, d)
-four_in (Some (a ∷ b ∷ c ∷ d ∷ e ∷ ns)) = None
+-- the numbers, if they are n
+abbrev pub exactly : ℕ → Option (List ℕ) → Option (List ℕ)
+exactly n None = None
+exactly n (Some ns) = if length ns == n then Some ns else None

@@ -1,8 +1,9 @@
 // The lines of a text, one after the other.
 ghost use Rattle.plain_text.specs.Lines.{lines_of, left_of};
-ghost use Rattle.std.specs.Prelude.{◌≡◌, [], ◌∷◌, MatchOption};
+ghost use Rattle.std.specs.Iterator.{YieldsFirstRef, item_count};
+ghost use Rattle.std.specs.Prelude.{◌≡◌};
 
-use super::pieces::first_index;
+use super::pieces::first_piece;
 
 // What is left of a text from a line's beginning on.
 #[derive(Drop)]
@@ -11,22 +12,23 @@ pub struct Lines<'a> {
 }
 
 impl<'a> Lines<'a> {
-    pub fn of(text: &'a [u8]) -> Lines<'a>
+    pub fn new(text: &'a [u8]) -> Lines<'a>
         ensures { left_of result ≡ lines_of text.now }
     {
         Lines { rest: Some(text) }
     }
+}
 
-    pub fn next(&mut self) -> Option<&'a [u8]>
-        ensures { MatchOption result (left_of self.old ≡ []) (λ line. left_of self.old ≡ line.now ∷ left_of self.new) }
-    {
-        let rest = self.rest?;
-        let end = first_index(rest, b'\n');
-        if end + 1 < rest.len() {
-            self.rest = Some(&rest[end + 1..]);
-        } else {
-            self.rest = None;
-        }
-        Some(&rest[0..end])
+impl<'a> Iterator for Lines<'a> {
+    type Item = &'a [u8];
+
+    ghost next_gives = { YieldsFirstRef left_of };
+
+    ghost remaining = { item_count left_of };
+
+    fn next(&mut self) -> Option<&'a [u8]> {
+        let (line, after) = first_piece(self.rest?, b'\n');
+        self.rest = after.filter(|rest| !rest.is_empty());
+        Some(line)
     }
 }

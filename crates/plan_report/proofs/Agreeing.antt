@@ -16,7 +16,8 @@ use Rattle.plan_report.specs.Texts.{fault_text, plan_front, short_front, set_lin
 use Rattle.refusals.specs.declared.fault.Cause.{Cause}
 use Rattle.refusals.specs.declared.fault.Cause.TheVariants as cause
 use Rattle.refusals.specs.declared.fault.Fault.{Fault}
-use Rattle.saved_file.specs.ByItself.{by_itself, known_kind, valid_in}
+use Rattle.grades.specs.Names.{known_kind}
+use Rattle.saved_file.specs.ByItself.{by_itself, valid_in}
 use Rattle.std.proofs.lemmas.Bool.{eqb-true, le-leb, both_ways}
 
 points_order : Order valid_points above_points

@@ -1,7 +1,6 @@
 -- Lines added one after the other.
-use Rattle.std.proofs.Common.{◌≡◌, ℕ, zero, suc, ◌+◌, ◌<◌, Bool, cond, List, [], ◌∷◌, ◌++◌, get_or, codes, decimal, Option, sym, refl, ap, ◌∙◌, append_assoc, append-nil, add-one, arith}
-use Rattle.file_text.specs.Texts.{sheet_line}
-use Rattle.plan_report.specs.Texts.{pair_line, table, members, head_line}
+use Rattle.std.proofs.Common.{◌≡◌, ℕ, zero, suc, ◌+◌, ◌<◌, Bool, cond, List, [], ◌++◌, get_or, codes, decimal, Option, sym, refl, ap, ◌∙◌, append_assoc, append-nil, add-one, arith}
+use Rattle.plan_report.specs.Texts.{pair_line, table, members}
 
 pub two_parts : (start a b first second : List ℕ) → first ≡ start ++ a → second ≡ first ++ b → second ≡ start ++ (a ++ b)
 two_parts start a b first second x y = y ∙ ap (λ (w : List ℕ). w ++ b) x ∙ append_assoc start a b
@@ -38,18 +37,6 @@ members_more S start before after n b a =
   where
     grown : members S (n + 1) ≡ members S n ++ cond (S n) (codes " " ++ decimal (n + 1)) []
     grown = rw add-one refl
-
-pub three_parts :
-    (start a b c first second third : List ℕ) → first ≡ start ++ a → second ≡ first ++ b → third ≡ second ++ c
-    → third ≡ start ++ ((a ++ b) ++ c)
-three_parts start a b c first second third x y z = two_parts start (a ++ b) c second third (two_parts start a b first second x y) z
-
-pub head_told :
-    (kind p t n k q u : ℕ) (line text : List ℕ) → k ≡ kind → q ≡ p → u ≡ t
-    → line ≡ sheet_line (record { kind = k; packages = q; translators = u }) n → text ≡ line ++ (10 ∷ [])
-    → text ≡ head_line kind p t n
-head_told kind p t n k q u line text a b c x y =
-    y ∙ ap (λ (w : List ℕ). w ++ (10 ∷ [])) x ∙ (λ i. head_line (a i) (b i) (c i) n)
 
 -- the members of a set among the first places depend on these places alone
 pub members_same : (S T : ℕ → Bool) (n : ℕ) → ((k : ℕ) → k < n → S k ≡ T k) → members S n ≡ members T n

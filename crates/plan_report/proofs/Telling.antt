@@ -19,10 +19,11 @@ use Rattle.plan_report.specs.Reports.{above_in, Holds, Report, Tells}
 use Rattle.plan_report.specs.Texts.{fault_text, head_line, lowest_line, no_plan_line, set_line, short_words, table, tight_words}
 use Rattle.refusals.specs.declared.fault.Cause.TheVariants as cause
 use Rattle.refusals.specs.declared.fault.Fault.{Fault}
-use Rattle.saved_file.specs.ByItself.{by_itself, kind_number, known_kind, three_of, valid_in}
+use Rattle.grades.specs.Names.{kind_number, known_kind}
+use Rattle.saved_file.specs.ByItself.{by_itself, three_of, valid_in}
 use Rattle.saved_file.specs.declared.head.Head.{Head}
-use Rattle.saved_file.specs.declared.head.KindName.{KindName}
-use Rattle.saved_file.specs.declared.head.KindName.TheVariants.{OfPoints, OfRatings}
+use Rattle.grades.specs.declared.kind_name.KindName.{KindName}
+use Rattle.grades.specs.declared.kind_name.KindName.TheVariants.{Points, Ratings}
 use Rattle.std.proofs.lemmas.List.{get_or-take, length-take-le}
 use Rattle.std.specs.declared.alloc.AllocError.{AllocError}
 use Rattle.std.specs.declared.alloc.Global.{Global}
@@ -101,12 +102,12 @@ own_right h bs e right (rules.grade_record r) u =
 own_right h bs e right rules.the_end u = right rules.the_end u
 
 known : (k : KindName) → known_kind (kind_number k) ≡ true
-known OfPoints = refl
-known OfRatings = refl
+known Points = refl
+known Ratings = refl
 
 no_zero : (k : KindName) → valid_in (kind_number k) 0 ≡ false
-no_zero OfPoints = refl
-no_zero OfRatings = refl
+no_zero Points = refl
+no_zero Ratings = refl
 
 module _ (h : Head) (bs : List ℕ) (bytes : Bytes bs) (right : rules.Right (named_by h) bs) where
   pub held : Holds bs (kind_number h.kind) h.sizes.packages h.sizes.translators (grade_in bs)

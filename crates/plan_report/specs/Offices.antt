@@ -2,11 +2,12 @@
 -- draw comes to.
 use Rattle.std.specs.Prelude.{ℕ, Bool, List, take, Some, None, Option}
 use Rattle.file_format.specs.Rules.{Expected, just}
+use Rattle.grades.specs.Names.{kind_number}
 use Rattle.matching.specs.Answers.{member}
 use Rattle.matching.specs.Plans.{BestPlan, NoPlan, ShortSet, TightSet}
 use Rattle.pages.specs.Answers.{Ran}
 use Rattle.pages.specs.Lines.{Opening, Event}
-use Rattle.saved_file.specs.ByItself.{kind_number, valid_in}
+use Rattle.saved_file.specs.ByItself.{valid_in}
 use Rattle.saved_file.specs.declared.head.Head.{Head}
 use Rattle.sheet.specs.Sheets.{opening_of, standing_of}
 use Rattle.sheet.specs.declared.sheet.Sheet.{Sheet}

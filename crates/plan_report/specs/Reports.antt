@@ -1,17 +1,18 @@
 -- Which text is the report on a saved file, and what all reports on one file have in common.
-use Rattle.std.specs.Prelude.{◌≡◌, ℕ, Bool, true, cond, ◌⊎◌, List, ◌++◌, Option, ◌==◌}
+use Rattle.std.specs.Prelude.{◌≡◌, ℕ, Bool, true, if◌then◌else◌, ◌⊎◌, List, ◌++◌, Option, ◌==◌}
 use Rattle.file_format.specs.FileOf.{Graded, file_of}
 use Rattle.file_format.specs.Rules.{Faulty}
+use Rattle.grades.specs.Names.{known_kind}
 use Rattle.grades.specs.Points.{above_points}
 use Rattle.grades.specs.Ratings.{above_rating}
 use Rattle.matching.specs.Plans.{BestPlan, NoPlan, ShortSet, TightSet}
 use Rattle.plan_report.specs.Texts.{fault_text, plan_front, short_front, set_line, tight_words, short_words}
 use Rattle.refusals.specs.declared.fault.Fault.{Fault}
-use Rattle.saved_file.specs.ByItself.{by_itself, known_kind, valid_in}
+use Rattle.saved_file.specs.ByItself.{by_itself, valid_in}
 
 -- the order of the grades of a kind: 1 is points, and else ratings
 abbrev pub above_in : ℕ → ℕ → ℕ → Bool
-above_in kind a b = cond (kind == 1) (above_points a b) (above_rating a b)
+above_in kind a b = if kind == 1 then above_points a b else above_rating a b
 
 -- the file is that of grades G of a known kind, in sizes p and t
 pub record Holds (file : List ℕ) (kind p t : ℕ) (G : ℕ → ℕ → Option ℕ) : Type 0 where

@@ -1,7 +1,8 @@
 -- The text of a report on a saved file, line by line. Every line is ended by byte 0A.
-use Rattle.std.specs.Prelude.{ℕ, zero, suc, ◌/◌, ◌%◌, Bool, cond, List, [], ◌∷◌, ◌++◌, Some, None, codes, decimal, Option, ◌==◌, slice_index}
+use Rattle.std.specs.Prelude.{ℕ, zero, suc, ◌/◌, ◌%◌, Bool, if◌then◌else◌, List, [], ◌∷◌, ◌++◌, Some, None, codes, decimal, Option, ◌==◌, slice_index}
 use Rattle.books.specs.Meaning.{standing}
-use Rattle.file_text.specs.Texts.{fault_line, sheet_line}
+use Rattle.file_format.specs.Words.{sheet_line}
+use Rattle.refusals.specs.Words.{fault_line}
 use Rattle.refusals.specs.declared.fault.Fault.{Fault}
 
 abbrev pub ended : List ℕ → List ℕ
@@ -11,15 +12,15 @@ ended text = text ++ (10 ∷ [])
 -- practice and its code. Kind 1 is points.
 abbrev pub grade_words : ℕ → ℕ → List ℕ
 grade_words kind code =
-    cond (kind == 1) (decimal code)
-    (codes "class " ++ (decimal (code % 256)
-    ++ (codes ", " ++ (decimal (code / 256) ++ (codes " days (code " ++ (decimal code ++ codes ")"))))))
+    if kind == 1 then decimal code
+    else codes "class " ++ (decimal (code % 256)
+    ++ (codes ", " ++ (decimal (code / 256) ++ (codes " days (code " ++ (decimal code ++ codes ")")))))
 
 -- a pair of a full plan has a grade; every pair that has the lowest is marked
 abbrev pub told_grade : ℕ → ℕ → Option ℕ → List ℕ
 told_grade kind lowest None = codes "no grade"
 told_grade kind lowest (Some code) =
-    cond (code == lowest) (grade_words kind code ++ codes ", the lowest") (grade_words kind code)
+    if code == lowest then grade_words kind code ++ codes ", the lowest" else grade_words kind code
 
 abbrev pub pair_line : ℕ → ℕ → ℕ → ℕ → Option ℕ → List ℕ
 pair_line kind lowest pkg translator grade =
@@ -36,7 +37,7 @@ table kind lowest G plan (suc n) =
 -- package k + 1 is a member
 unfoldable pub members : (ℕ → Bool) → ℕ → List ℕ
 members S zero = []
-members S (suc n) = members S n ++ cond (S n) (codes " " ++ decimal (suc n)) []
+members S (suc n) = members S n ++ (if S n then codes " " ++ decimal (suc n) else [])
 
 abbrev pub set_line : List ℕ → (ℕ → Bool) → ℕ → List ℕ
 set_line words S n = ended (words ++ members S n)

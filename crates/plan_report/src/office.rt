@@ -4,11 +4,11 @@ ghost use Rattle.file_format.specs.FileOf.{grade_in};
 ghost use Rattle.file_format.specs.Rules.{Right, just};
 ghost use Rattle.plan_report.specs.Offices.{RanOn, Settled, named_by};
 ghost use Rattle.plan_report.specs.Reports.{above_in};
-ghost use Rattle.saved_file.specs.ByItself.{kind_number};
+ghost use Rattle.grades.specs.Names.{kind_number};
 
 use books::Sizes;
-use grades::{Kind, Points, Ratings};
-use saved_file::{Head, KindName};
+use grades::{Kind, KindName, Points, Ratings};
+use saved_file::Head;
 use sheet::{Draw, Sheet};
 use table_book::TableBook;
 
@@ -60,7 +60,7 @@ pub(crate) fn draw_by_head(head: Head, file: &[u8], plan: &mut [u16], set: &mut 
     ensures { Settled (above_in (kind_number head.kind)) (grade_in file.now) head.sizes.packages head.sizes.translators plan.new set.new result }
 {
     match head.kind {
-        KindName::OfPoints => draw_file::<Points>(file, head.sizes, plan, set),
-        KindName::OfRatings => draw_file::<Ratings>(file, head.sizes, plan, set),
+        KindName::Points => draw_file::<Points>(file, head.sizes, plan, set),
+        KindName::Ratings => draw_file::<Ratings>(file, head.sizes, plan, set),
     }
 }

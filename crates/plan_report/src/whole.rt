@@ -2,29 +2,28 @@
 ghost use Rattle.books.specs.Meaning.{standing};
 ghost use Rattle.file_format.specs.FileOf.{grade_in};
 ghost use Rattle.file_format.specs.Laws.{Bytes};
-ghost use Rattle.file_format.specs.Layout.{count_in};
 ghost use Rattle.file_format.specs.Rules.{Right};
 ghost use Rattle.plan_report.specs.Offices.{named_by};
 ghost use Rattle.plan_report.specs.Reports.{Report, ReportsAgree, Tells};
 ghost use Rattle.plan_report.specs.Texts.{head_line};
-ghost use Rattle.saved_file.specs.ByItself.{by_itself, kind_number};
+ghost use Rattle.grades.specs.Names.{kind_number};
+ghost use Rattle.saved_file.specs.ByItself.{by_itself};
 ghost use Rattle.std.specs.Prelude.{◌≡◌, IfOk, string_bytes, OnOk};
 ghost use Rattle.table_book.specs.Table.{table_meaning};
 
 use super::firsts::{fault_line, head_line};
+use super::grade::Scale;
 use super::lines::{write_plan, write_short};
 use super::office::draw_by_head;
 use books::Reading;
 use file_loading::put_records;
 use saved_file::{CheckedFile, Head, check_by_itself, read_head};
 use std::alloc::{AllocError, Global};
-use std::fmt;
 use table_book::TableBook;
 
 // The grades of a right file, to be read pair by pair.
 fn grades_in(file: &CheckedFile<'_>, head: Head) -> TableBook
     requires bytes { Bytes file.now.file.now }
-    requires count { file.now.count ≡ count_in file.now.file.now }
     requires right { Right (named_by head) file.now.file.now }
     ensures { (table_meaning result).grade ≡ grade_in file.now.file.now }
 {
@@ -34,7 +33,12 @@ fn grades_in(file: &CheckedFile<'_>, head: Head) -> TableBook
 }
 
 // What a draw comes to, after the first line.
-fn tell_draw(out: &mut String, head: Head, file: &[u8], grades: &TableBook) -> fmt::Result
+fn tell_draw(
+    out: &mut String,
+    head: Head,
+    file: &[u8],
+    grades: &TableBook,
+) -> Result<(), AllocError>
     requires right { Right (named_by head) file.now }
     requires grades { (table_meaning grades.now).grade ≡ grade_in file.now }
     requires begun { string_bytes out.old ≡ head_line (kind_number head.kind) head.sizes.packages head.sizes.translators (standing (grade_in file.now) head.sizes.packages head.sizes.translators) }
@@ -47,8 +51,10 @@ fn tell_draw(out: &mut String, head: Head, file: &[u8], grades: &TableBook) -> f
         Some(lowest) => {
             write_plan(
                 out,
-                head.kind,
-                lowest,
+                Scale {
+                    kind: head.kind,
+                    lowest,
+                },
                 grades,
                 &plan[0..packages],
                 &set[0..packages],
@@ -64,7 +70,6 @@ fn tell_draw(out: &mut String, head: Head, file: &[u8], grades: &TableBook) -> f
 // The report on a file that was found right.
 fn report_right(heap: Global, file: &[u8], checked: &CheckedFile<'_>) -> Result<String, AllocError>
     requires same { checked.now.file.now ≡ file.now }
-    requires count { checked.now.count ≡ count_in file.now }
     requires right { Right (by_itself file.now) file.now }
     ensures { IfOk result (λ text. Report file.now (string_bytes text)) }
 {
@@ -73,9 +78,7 @@ fn report_right(heap: Global, file: &[u8], checked: &CheckedFile<'_>) -> Result<
     };
     let grades = grades_in(checked, head);
     let mut text = head_line(heap, head, checked.count())?;
-    let Ok(()) = tell_draw(&mut text, head, file, &grades) else {
-        return Err(AllocError);
-    };
+    tell_draw(&mut text, head, file, &grades)?;
     Ok(text)
 }
 

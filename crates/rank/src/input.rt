@@ -2,29 +2,23 @@
 use super::problem::Problem;
 use books::{Book, Sizes};
 use grades::{Kind, Points};
-use plain_text::{Lines, three_numbers, two_numbers};
+use plain_text::{Lines, numbers};
 use refusals::Refusal;
 use table_book::TableBook;
 
 // The first line has the sizes, and each other line a package, a translator and points.
 pub fn read_book(text: &[u8]) -> Result<TableBook, Problem> {
-    let mut lines = Lines::of(text);
-    let Some((packages, translators)) = two_numbers(lines.next()) else {
-        return Err(Problem::BadSizes);
-    };
-    let mut book = match Sizes::check(packages, translators) {
-        Ok(sizes) => TableBook::new(sizes),
-        Err(refusal) => return Err(Problem::Refused(1, refusal)),
-    };
-    let mut number: usize = 1;
-    while let Some(line) = lines.next() {
-        number = number.saturating_add(1);
-        let Some((pkg, translator, points)) = three_numbers(Some(line)) else {
-            return Err(Problem::BadLine(number));
-        };
-        if let Err(refusal) = put_points(&mut book, pkg, translator, points) {
-            return Err(Problem::Refused(number, refusal));
-        }
+    let mut lines = Lines::new(text);
+    let [packages, translators] = numbers::<2>(lines.next()).ok_or(Problem::BadSizes)?;
+    let sizes = Sizes::check(packages, translators).map_err(|refusal| Problem::Refused(
+        1, refusal,
+    ))?;
+    let mut book = TableBook::new(sizes);
+    for (number, line) in (2..).zip(lines) {
+        let [pkg, translator, points] = numbers::<3>(Some(line)).ok_or(Problem::BadLine(number))?;
+        put_points(&mut book, pkg, translator, points).map_err(|refusal| Problem::Refused(
+            number, refusal,
+        ))?;
     }
     Ok(book)
 }

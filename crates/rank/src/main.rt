@@ -6,6 +6,7 @@ mod input;
 mod output;
 mod problem;
 
+use anyhow::ensure;
 use books::Reading;
 use input::read_book;
 use output::print_package;
@@ -18,12 +19,10 @@ const MOST_BYTES: u64 = 65_536;
 fn run(rt: &HostRuntime) -> anyhow::Result<()> {
     let mut text = Vec::new(rt.alloc());
     rt.stdin().take(MOST_BYTES + 1).read_to_end(&mut text)?;
-    if text.len() as u64 > MOST_BYTES {
-        return Err(Problem::TooLong.into());
-    }
+    ensure!(text.len() as u64 <= MOST_BYTES, Problem::TooLong);
     let book = read_book(&text)?;
-    for pkg in 0..u32::from(book.packages()) {
-        print_package(rt, &book, pkg + 1)?;
+    for pkg in 1..=u32::from(book.packages()) {
+        print_package(rt, &book, pkg)?;
     }
     Ok(())
 }

@@ -1,40 +1,18 @@
 // What can be wrong with the input, each in one line.
 use refusals::Refusal;
-use std::error::Error;
-use std::fmt;
+use thiserror::Error;
 
-#[derive(Debug, Drop)]
+#[derive(Debug, Drop, Error)]
 pub enum Problem {
+    #[error("the input is over 65536 bytes")]
     TooLong,
+    #[error("line 1: write how many packages and translators, as in: 2 3")]
     BadSizes,
+    #[error("line {0}: write a package, a translator and points, as in: 1 2 700")]
     BadLine(usize),
+    #[error("line {}: refused {}, {}", .0, .1.number(), reason(*.1))]
     Refused(usize, Refusal),
 }
-
-impl fmt::Display for Problem {
-    fn fmt<W: fmt::Write>(&self, f: &mut fmt::Formatter<W>) -> fmt::Result {
-        match self {
-            Problem::TooLong => write!(f, "the input is over 65536 bytes"),
-            Problem::BadSizes => write!(
-                f,
-                "line 1: write how many packages and translators, as in: 2 3"
-            ),
-            Problem::BadLine(line) => {
-                write!(
-                    f,
-                    "line {line}: write a package, a translator and points, as in: 1 2 700"
-                )
-            }
-            Problem::Refused(line, refusal) => {
-                let number = refusal.number();
-                let reason = reason(*refusal);
-                write!(f, "line {line}: refused {number}, {reason}")
-            }
-        }
-    }
-}
-
-impl Error for Problem {}
 
 fn reason(refusal: Refusal) -> &'static str {
     match refusal {

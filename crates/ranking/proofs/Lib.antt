@@ -1,1 +1,3 @@
+mod Chain
 mod Firsts
+mod Rows

@@ -6,7 +6,7 @@ use Rattle.file_format.proofs.Once.{right_or_one_fault}
 use Rattle.file_format.proofs.RoundTrip.{file_is_right}
 use Rattle.file_format.specs.FileOf.{Graded, file_of}
 use Rattle.file_format.specs.Layout.{count_in, start_of, last_of, record_in, six_bytes}
-use Rattle.file_format.specs.Rules.{just, Expected, Part, Faulty, There, Right, RightPart, RecordsRight, rank, rules, first_broken, section_of, number_of, offset_of, answer, first_count, sheet_record, second_count, grade_record, the_end, first_count_rules, sheet_rules, second_count_rules, grade_rules, end_rules}
+use Rattle.file_format.specs.Rules.{just, Expected, Part, Faulty, There, Right, RightPart, RecordsRight, rank, rules, first_broken, section_of, number_of, offset_of, answer, first_count, sheet_record, second_count, grade_record, the_end, grade_rules, end_rules}
 use Rattle.file_format.specs.declared.records.GradeRecord.{GradeRecord}
 use Rattle.std.proofs.lemmas.Bool.{cases_eq, cond-false, ne_eqb}
 

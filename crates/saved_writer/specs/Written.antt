@@ -1,5 +1,5 @@
 -- What writing into a lent buffer leaves and answers.
-use Rattle.std.specs.Prelude.{◌≡◌, ℕ, ◌+◌, ◌^◌, ◌<◌, ◌≤◌, Bool, true, cond, List, ◌++◌, length, take, drop, Some, Ok, Err, Option, Result, nat_le}
+use Rattle.std.specs.Prelude.{◌≡◌, ℕ, ◌+◌, ◌^◌, ◌<◌, ◌≤◌, Bool, true, if◌then◌else◌, List, ◌++◌, length, take, drop, Some, Ok, Err, Option, Result, nat_le}
 use Rattle.books.specs.Meaning.{Meaning}
 use Rattle.file_format.specs.FileOf.{file_of, grade_in}
 use Rattle.file_format.specs.Rules.{Right, just}
@@ -17,10 +17,10 @@ file_of_meaning number m = file_of number m.packages m.translators m.grade
 -- a buffer that is shorter than the file is refused and stays as it was; else the file stands at its
 -- start, the later bytes are as they were, and the answer is the length of the file
 abbrev pub write_answer : List ℕ → List ℕ → Result ℕ Refusal
-write_answer file buffer = cond (nat_le (length file) (length buffer)) (Ok (length file)) (Err Space)
+write_answer file buffer = if nat_le (length file) (length buffer) then Ok (length file) else Err Space
 
 abbrev pub write_after : List ℕ → List ℕ → List ℕ
-write_after file buffer = cond (nat_le (length file) (length buffer)) (file ++ drop (length file) buffer) buffer
+write_after file buffer = if nat_le (length file) (length buffer) then file ++ drop (length file) buffer else buffer
 
 -- the code of a pair, the codes of a row and those of a whole book have 32 bits
 abbrev pub CodeFits : Option ℕ → Type 0

@@ -9,6 +9,8 @@ use file_format::{GradeRecord, SheetRecord};
 use grades::Kind;
 use refusals::Refusal;
 
+// `out` and `at` stay two: a struct that holds the loan needs a clause on its end in each function.
+
 // The six bytes of one grade.
 fn write_grade(out: &mut [u8], at: usize, found: GradeRecord)
     requires { at + 6 ≤ length out.old }
@@ -63,8 +65,8 @@ fn write_row<R: Reading>(book: &R, pkg: u8, out: &mut [u8], at: usize) -> usize
     ensures codes { RowFits ((R.meaning book.now).grade pkg) (R.meaning book.now).translators }
 {
     let mut end = at;
-    for translator in 0..book.translators() {
-        end = write_pair(book, pkg, translator + 1, out, end);
+    for translator in 1..=book.translators() {
+        end = write_pair(book, pkg, translator, out, end);
     }
     end
 }
@@ -76,8 +78,8 @@ fn write_rows<R: Reading>(book: &R, out: &mut [u8])
     ensures codes { CodesFit (R.meaning book.now).grade (R.meaning book.now).packages (R.meaning book.now).translators }
 {
     let mut at = 7;
-    for pkg in 0..book.packages() {
-        at = write_row(book, pkg + 1, out, at);
+    for pkg in 1..=book.packages() {
+        at = write_row(book, pkg, out, at);
     }
 }
 

@@ -5,11 +5,12 @@ use Rattle.pages.specs.Lines.{run_on}
 use Rattle.sheet.specs.Entries.{asked_in, event_in, events_in}
 use Rattle.sheet.specs.Lines.{asked_of, outcome_of, event_of}
 use Rattle.sheet.specs.Told.{told}
-use Rattle.sheet.specs.declared.entries.Ask.{Ask}
 use Rattle.sheet.specs.declared.entries.Entry.{Entry}
 use Rattle.sheet.specs.declared.page.Answer.{Answer}
-use Rattle.sheet.specs.declared.page.Line.{Line}
+use Rattle.sheet.specs.declared.page.Call.{Call}
+use Rattle.sheet.specs.declared.slip.Slip.{Slip}
 use Rattle.std.proofs.lemmas.List.{drop-drop, drop-set-lt, get_or-drop}
+use Rattle.std.specs.Borrow.{Bor}
 use Rattle.std.specs.Option.{option_map}
 
 events_next :
@@ -43,7 +44,7 @@ same_rest xs ys i y e =
 
 -- the event of a line that was made of an entry
 pub same_event :
-    (line : Line) (ask : Ask) (file plan set plan' set' given lent : List ℕ) (a : Answer) (slip : Option ℕ) (wrote marked : List ℕ)
+    (line : Call Slip (Bor (List ℕ))) (ask : Call ℕ (Unit {0})) (file plan set plan' set' given lent : List ℕ) (a : Answer Slip) (slip : Option ℕ) (wrote marked : List ℕ)
     → ((p s : List ℕ) → asked_of line p s ≡ asked_in ask file p s) → given ≡ plan → lent ≡ set
     → slip ≡ option_map (λ s. s.tag) a.slip → wrote ≡ plan' → marked ≡ set'
     → ◌≡◌ {A = page.Event} (event_of line given lent a plan' set')

@@ -3,6 +3,5 @@ mod Drawing
 mod Entered
 mod Loading
 mod Pairs
-mod Saving
 mod Showing
 mod Spends

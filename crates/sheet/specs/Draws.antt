@@ -1,23 +1,21 @@
 -- What a draw that was let in does, for the function behind the call.
-use Rattle.std.specs.Prelude.{◌≡◌, ℕ, List, Some, Ok, Err, Result}
+use Rattle.std.specs.Prelude.{◌≡◌, ℕ, List, Some, None, Ok, Err, Option, Result}
 use Rattle.matching.specs.Answers.{PlanWritten, ShortWritten, NoRoom}
 use Rattle.pages.specs.Answers.{valid_only}
-use Rattle.pages.specs.Lines.{Opening}
-use Rattle.pages.specs.Standing.{Standing}
 use Rattle.refusals.specs.declared.refusal.Refusal.{Refusal}
-use Rattle.sheet.specs.Admission.{settled}
-use Rattle.sheet.specs.Steps.{with_plans}
+use Rattle.sheet.specs.Admission.{after}
+use Rattle.sheet.specs.Sheets.{Stood}
 use Rattle.sheet.specs.declared.sheet.admission.Next.{Next}
 use Rattle.sheet.specs.declared.sheet.drawing.Draw.{Draw}
-use Rattle.sheet.specs.declared.sheet.drawing.Draw.TheVariants as draw
 
 abbrev pub DrawsNow :
-    Opening → Standing → Next → List ℕ → List ℕ → List ℕ → List ℕ → Result Draw Refusal → Opening → Standing → Type 0
-DrawsNow o s next plan set plan' set' (Ok (draw.Drawn lowest slip)) q t =
+    Stood → Next → List ℕ → List ℕ → List ℕ → List ℕ → Result (Option Draw) Refusal → Stood → Type 0
+DrawsNow x next plan set plan' set' (Ok (Some d)) y =
     (best : List ℕ)
-    × PlanWritten o.above (valid_only o s.grade) o.packages o.translators plan set plan' set' best lowest
-    × (slip.tag ≡ o.tag) × (q ≡ o)
-    × (t ≡ with_plans s (settled next (Some (record { plan = best; lowest = lowest }))) s.published)
-DrawsNow o s next plan set plan' set' (Ok draw.Short) q t =
-    ShortWritten (valid_only o s.grade) o.packages o.translators plan set plan' set' × (q ≡ o) × (t ≡ s)
-DrawsNow o s next plan set plan' set' (Err r) q t = NoRoom o.packages plan set plan' set' r × (q ≡ o) × (t ≡ s)
+    × PlanWritten x.opening.above (valid_only x.opening x.standing.grade) x.opening.packages x.opening.translators plan set plan' set' best d.lowest
+    × (d.slip.tag ≡ x.opening.tag)
+    × (y ≡ after x next (Some (record { plan = best; lowest = d.lowest })))
+DrawsNow x next plan set plan' set' (Ok None) y =
+    ShortWritten (valid_only x.opening x.standing.grade) x.opening.packages x.opening.translators plan set plan' set'
+    × (y ≡ after x next None)
+DrawsNow x next plan set plan' set' (Err r) y = NoRoom x.opening.packages plan set plan' set' r × (y ≡ x)

@@ -1,20 +1,14 @@
 -- The entries of a page as lines and answers.
 use Rattle.std.specs.Prelude.{ℕ, List, [], ◌∷◌, vec_items}
 use Rattle.pages.specs.Lines as page
-use Rattle.sheet.specs.Lines.{outcome_of}
-use Rattle.sheet.specs.Told.{asked, told}
-use Rattle.sheet.specs.declared.entries.Ask.{Ask}
-use Rattle.sheet.specs.declared.entries.Ask.TheVariants as ask
+use Rattle.sheet.specs.Lines.{asked_by, outcome_of}
+use Rattle.sheet.specs.Told.{told}
 use Rattle.sheet.specs.declared.entries.Entry.{Entry}
+use Rattle.sheet.specs.declared.page.Call.{Call}
 
-abbrev pub asked_in : Ask → List ℕ → List ℕ → List ℕ → page.Line
-asked_in (ask.Grade role pkg translator code) file plan set = asked role (page.Call.grade pkg translator code) plan set
-asked_in (ask.Strike role pkg translator) file plan set = asked role (page.Call.strike pkg translator) plan set
-asked_in (ask.Load role) file plan set = asked role (page.Call.load file) plan set
-asked_in (ask.Draw role) file plan set = asked role page.Call.draw plan set
-asked_in (ask.Publish role tag) file plan set = asked role (page.Call.publish tag) plan set
-asked_in (ask.Withdraw role tag) file plan set = asked role (page.Call.withdraw tag) plan set
-asked_in (ask.Show role) file plan set = asked role page.Call.show plan set
+-- a slip is asked for by its tag
+abbrev pub asked_in : Call ℕ (Unit {0}) → List ℕ → List ℕ → List ℕ → page.Line
+asked_in ask file plan set = asked_by (λ tag. tag) (λ _. file) ask plan set
 
 -- an entry as it was given, and as it stands after it has run
 abbrev pub event_in : Entry → Entry → page.Event

@@ -3,6 +3,8 @@ pub mod Draws
 pub mod Entries
 pub mod Files
 pub mod Lines
+pub mod Roles
 pub mod Sheets
+pub mod Spending
 pub mod Steps
 pub mod Told

@@ -1,61 +1,79 @@
 -- The answers of the calls, each by the chain of its checks, for the functions behind the calls. What
 -- the calls themselves promise is stated without these.
-use Rattle.std.specs.Prelude.{ℕ, cond, not, ◌&&◌, List, length, is_some, is_ok, Some, None, Ok, Err, Option, Result, ◌==◌, nat_lt}
+use Rattle.std.specs.Prelude.{ℕ, not, ◌&&◌, List, length, is_some, is_ok, Some, None, Ok, Err, Option, Result, ◌==◌, nat_lt, if◌then◌else◌}
 use Rattle.books.specs.Limits.{inside}
-use Rattle.books.specs.Meaning.{standing}
+use Rattle.books.specs.Meaning as book
 use Rattle.matching.specs.Written.{room_for, written}
-use Rattle.pages.specs.Lines.{Opening}
 use Rattle.pages.specs.Reasons.{may}
-use Rattle.pages.specs.Standing.{Standing, Drawn}
+use Rattle.pages.specs.Standing.{Drawn}
 use Rattle.refusals.specs.declared.refusal.Refusal.{Refusal}
 use Rattle.refusals.specs.declared.refusal.Refusal.TheVariants as refusal
+use Rattle.sheet.specs.Roles.{number_of}
+use Rattle.sheet.specs.Sheets.{Stood}
+use Rattle.sheet.specs.declared.role.Role.{Role}
 use Rattle.sheet.specs.declared.slip.Slip.{Slip}
 
-abbrev pub grade_answer : Opening → Standing → ℕ → ℕ → ℕ → ℕ → Result (Unit {0}) Refusal
-grade_answer o s role a b code =
-    cond (not (may 2 role)) (Err refusal.Role)
-    (cond (is_some s.out) (Err refusal.SlipOut)
-    (cond (not (inside o.packages o.translators a b)) (Err refusal.Place)
-    (cond (not (o.valid code)) (Err refusal.Grade)
-    (cond (not (is_some (s.grade a b)) && standing s.grade o.packages o.translators == o.limit) (Err refusal.Full) (Ok tt)))))
+-- how many grades stand
+abbrev pub graded : Stood → ℕ
+graded x = book.standing x.standing.grade x.opening.packages x.opening.translators
 
-abbrev pub strike_answer : Opening → Standing → ℕ → ℕ → ℕ → Result (Unit {0}) Refusal
-strike_answer o s role a b =
-    cond (not (may 3 role)) (Err refusal.Role)
-    (cond (is_some s.out) (Err refusal.SlipOut)
-    (cond (not (inside o.packages o.translators a b)) (Err refusal.Place)
-    (cond (is_some (s.grade a b)) (Ok tt) (Err refusal.NothingThere))))
+abbrev pub grade_answer : Stood → ℕ → ℕ → ℕ → ℕ → Result (Unit {0}) Refusal
+grade_answer x role a b code =
+    if not (may 2 role) then Err refusal.Role
+    else if is_some x.standing.out then Err refusal.SlipOut
+    else if not (inside x.opening.packages x.opening.translators a b) then Err refusal.Place
+    else if not (x.opening.valid code) then Err refusal.Grade
+    else if not (is_some (x.standing.grade a b)) && graded x == x.opening.limit then Err refusal.Full
+    else Ok tt
 
--- what stands with the grade of one pair changed
-abbrev pub with_grade_at : Standing → ℕ → ℕ → Option ℕ → Standing
-with_grade_at s a b v =
+abbrev pub strike_answer : Stood → ℕ → ℕ → ℕ → Result (Unit {0}) Refusal
+strike_answer x role a b =
+    if not (may 3 role) then Err refusal.Role
+    else if is_some x.standing.out then Err refusal.SlipOut
+    else if not (inside x.opening.packages x.opening.translators a b) then Err refusal.Place
+    else if is_some (x.standing.grade a b) then Ok tt
+    else Err refusal.NothingThere
+
+-- the same with other grades
+abbrev pub with_grades : Stood → (ℕ → ℕ → Option ℕ) → Stood
+with_grades x g =
     record {
-      grade = λ i j. cond (i == a && j == b) v (s.grade i j);
-      out = s.out;
-      published = s.published;
+      opening = x.opening;
+      standing = record { grade = g; out = x.standing.out; published = x.standing.published };
     }
 
--- publish and withdraw, by the least role
-abbrev pub spend_answer : ℕ → Opening → Standing → ℕ → ℕ → Result (Unit {0}) Refusal
-spend_answer least o s role tag =
-    cond (not (may least role)) (Err refusal.Role)
-    (cond (is_some s.out) (cond (tag == o.tag) (Ok tt) (Err refusal.WrongSlip)) (Err refusal.WrongSlip))
+-- the same with the grade of one pair changed
+abbrev pub with_grade_at : Stood → ℕ → ℕ → Option ℕ → Stood
+with_grade_at x a b v =
+    with_grades x (λ i j. if i == a && j == b then v else x.standing.grade i j)
 
-abbrev pub or_back : Result (Unit {0}) Refusal → Slip → Result (Unit {0}) (Refusal × Slip)
-or_back (Ok u) slip = Ok u
-or_back (Err r) slip = Err (r, slip)
+-- the same with other plans, out and published
+abbrev pub with_plans : Stood → Option Drawn → Option Drawn → Stood
+with_plans x out published =
+    record {
+      opening = x.opening;
+      standing = record { grade = x.standing.grade; out = out; published = published };
+    }
 
-abbrev pub with_plans : Standing → Option Drawn → Option Drawn → Standing
-with_plans s out published = record { grade = s.grade; out = out; published = published }
+-- publish and withdraw, by the least role: the plan that was out, or the slip back with the reason
+abbrev pub spend_answer : Role → Stood → ℕ → Slip → Result (Option Drawn) (Refusal × Slip)
+spend_answer least x role slip =
+    if not (may (number_of least) role) then Err (refusal.Role, slip)
+    else if not (is_some x.standing.out) then Err (refusal.WrongSlip, slip)
+    else if slip.tag == x.opening.tag then Ok x.standing.out
+    else Err (refusal.WrongSlip, slip)
 
 -- a plan that has not as many translators as the book has packages does not fit; none such is drawn
 abbrev pub show_published : ℕ → Option Drawn → List ℕ → Result ℕ Refusal
 show_published p None plan = Err refusal.NothingThere
 show_published p (Some d) plan =
-    cond (nat_lt (length plan) p) (Err refusal.Space) (cond (is_ok (room_for d.plan plan)) (Ok d.lowest) (Err refusal.Space))
+    if nat_lt (length plan) p then Err refusal.Space
+    else if is_ok (room_for d.plan plan) then Ok d.lowest
+    else Err refusal.Space
 
-abbrev pub show_answer : Opening → Standing → ℕ → List ℕ → Result ℕ Refusal
-show_answer o s role plan = cond (not (may 1 role)) (Err refusal.Role) (show_published o.packages s.published plan)
+abbrev pub show_answer : Stood → ℕ → List ℕ → Result ℕ Refusal
+show_answer x role plan =
+    if not (may 1 role) then Err refusal.Role else show_published x.opening.packages x.standing.published plan
 
 abbrev pub shown_in : Option Drawn → List ℕ → List ℕ
 shown_in None plan = plan

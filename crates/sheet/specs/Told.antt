@@ -3,7 +3,6 @@ use Rattle.std.specs.Prelude.{ℕ, List, Some, None, Ok, Err, Option, Result}
 use Rattle.pages.specs.Lines.{Line, Answer, Call, Outcome}
 use Rattle.refusals.specs.declared.refusal.Refusal.{Refusal}
 use Rattle.sheet.specs.declared.sheet.drawing.Draw.{Draw}
-use Rattle.sheet.specs.declared.sheet.drawing.Draw.TheVariants as draw
 use Rattle.sheet.specs.declared.slip.Slip.{Slip}
 
 abbrev pub asked : ℕ → Call → List ℕ → List ℕ → Line
@@ -21,9 +20,9 @@ abbrev pub told_spent : Result (Unit {0}) (Refusal × Slip) → List ℕ → Lis
 told_spent (Ok u) plan set = told Outcome.done None plan set
 told_spent (Err back) plan set = told (Outcome.refused back.0) (Some back.1.tag) plan set
 
-abbrev pub told_draw : Result Draw Refusal → List ℕ → List ℕ → Answer
-told_draw (Ok (draw.Drawn lowest slip)) plan set = told (Outcome.drawn lowest) (Some slip.tag) plan set
-told_draw (Ok draw.Short) plan set = told Outcome.short None plan set
+abbrev pub told_draw : Result (Option Draw) Refusal → List ℕ → List ℕ → Answer
+told_draw (Ok (Some d)) plan set = told (Outcome.drawn d.lowest) (Some d.slip.tag) plan set
+told_draw (Ok None) plan set = told Outcome.short None plan set
 told_draw (Err r) plan set = told (Outcome.refused r) None plan set
 
 abbrev pub told_show : Result ℕ Refusal → List ℕ → List ℕ → Answer

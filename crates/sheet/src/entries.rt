@@ -1,58 +1,22 @@
 // A whole page: a list of lines, each with buffers of its own, run in place.
 ghost use Rattle.std.specs.Prelude.{◌≡◌, ℕ, List, ◌∷◌};
-ghost use Rattle.pages.specs.Answers.{Ran};
 ghost use Rattle.pages.specs.Files.{StandingGradesAreOfTheKind, SavedGradesComeBack, LoadedFilesAreSavedOnes};
 ghost use Rattle.pages.specs.Lines.{Opening as Opened, Event, run_on};
 ghost use Rattle.pages.specs.Promises.{EverySlipIsCounted, SameLinesSameAnswers, RefusedLinesComeOff};
 ghost use Rattle.pages.specs.Told.{RefusedForTheFirstReason, DrawnLinesHaveTheBestPlan, ShortLinesHaveNoPlan, DrawnWhereThereIsAPlan, ShowsGiveThePublishedPlan, OtherCallsAreDone, SameGradesSamePlan};
 ghost use Rattle.sheet.specs.Entries.{asked_in, event_in, events_in};
 ghost use Rattle.sheet.specs.Lines.{asked_of};
-ghost use Rattle.sheet.specs.Sheets.{opening_of, standing_of};
-ghost use Rattle.std.specs.Option.{option_map};
+ghost use Rattle.sheet.specs.Sheets.{LedTo};
 
-use crate::{Answer, Line, Outcome, Sheet, Slip};
+use crate::{Answer, Call, Line, Sheet, Slip, Stands};
 use books::Book;
 use grades::Kind;
 
-// A call by its numbers. A slip stands here by its tag.
-#[derive(Clone, Copy)]
-pub enum Ask {
-    Grade {
-        role: u32,
-        pkg: u32,
-        translator: u32,
-        code: u32,
-    },
-    Strike {
-        role: u32,
-        pkg: u32,
-        translator: u32,
-    },
-    Load {
-        role: u32,
-    },
-    Draw {
-        role: u32,
-    },
-    Publish {
-        role: u32,
-        tag: u32,
-    },
-    Withdraw {
-        role: u32,
-        tag: u32,
-    },
-    Show {
-        role: u32,
-    },
-}
+// A call by its numbers: a slip by its tag, and the file beside the call.
+pub type Ask = Call<u32, ()>;
 
-// The outcome, and the tag of a slip that was handed out or back.
-#[derive(Clone, Copy)]
-pub struct Reply {
-    pub outcome: Outcome,
-    pub slip: Option<u32>,
-}
+// The tag is that of a slip that was handed out or back.
+pub type Reply = Answer<u32>;
 
 // One line of a page with what it is given, and its answer once it has run.
 #[derive(Drop)]
@@ -67,7 +31,8 @@ pub struct Entry {
 // Runs every line in turn. Whatever history led to the sheet grows by these lines, all and in order,
 // with the answers that the entries then hold; and of every history holds what `call` says.
 pub fn run_page<B: Book, K: Kind>(sheet: &mut Sheet<B, K>, page: &mut [Entry])
-    ensures ran { (o : Opened) (h : List Event) → Ran o h (opening_of B.LIMIT K.NUMBER K.valid K.above B.Reading.meaning sheet.old) (standing_of B.Reading.meaning sheet.old) → Ran o (run_on h (events_in page.old page.new)) (opening_of B.LIMIT K.NUMBER K.valid K.above B.Reading.meaning sheet.new) (standing_of B.Reading.meaning sheet.new) }
+    ensures ran { (o : Opened) (h : List Event) → LedTo o h (⟦<Sheet<B, K> as Stands>⟧.stood sheet.old)
+        → LedTo o (run_on h (events_in page.old page.new)) (⟦<Sheet<B, K> as Stands>⟧.stood sheet.new) }
     ensures refused { RefusedForTheFirstReason }
     ensures drawn { DrawnLinesHaveTheBestPlan }
     ensures short { ShortLinesHaveNoPlan }
@@ -82,25 +47,20 @@ pub fn run_page<B: Book, K: Kind>(sheet: &mut Sheet<B, K>, page: &mut [Entry])
     ensures loaded { LoadedFilesAreSavedOnes }
     ensures same_plan { SameGradesSamePlan }
 {
-    run_entries(sheet, page);
-}
-
-fn run_entries<B: Book, K: Kind>(sheet: &mut Sheet<B, K>, page: &mut [Entry])
-    ensures { (o : Opened) (h : List Event) → Ran o h (opening_of B.LIMIT K.NUMBER K.valid K.above B.Reading.meaning sheet.old) (standing_of B.Reading.meaning sheet.old) → Ran o (run_on h (events_in page.old page.new)) (opening_of B.LIMIT K.NUMBER K.valid K.above B.Reading.meaning sheet.new) (standing_of B.Reading.meaning sheet.new) }
-{
     for e in page.iter_mut() {
         run_entry(sheet, e);
     }
 }
 
 fn run_entry<B: Book, K: Kind>(sheet: &mut Sheet<B, K>, entry: &mut Entry)
-    ensures { (o : Opened) (h : List Event) → Ran o h (opening_of B.LIMIT K.NUMBER K.valid K.above B.Reading.meaning sheet.old) (standing_of B.Reading.meaning sheet.old) → Ran o (event_in entry.old entry.new ∷ h) (opening_of B.LIMIT K.NUMBER K.valid K.above B.Reading.meaning sheet.new) (standing_of B.Reading.meaning sheet.new) }
+    ensures { (o : Opened) (h : List Event) → LedTo o h (⟦<Sheet<B, K> as Stands>⟧.stood sheet.old)
+        → LedTo o (event_in entry.old entry.new ∷ h) (⟦<Sheet<B, K> as Stands>⟧.stood sheet.new) }
 {
     let line = line_of(entry.ask, &entry.file);
     let Answer { outcome, slip } = sheet.call(line, &mut entry.plan, &mut entry.set);
     entry.reply = Reply {
         outcome,
-        slip: ended(slip),
+        slip: slip.map(Slip::spend),
     };
 }
 
@@ -129,26 +89,16 @@ fn line_of(ask: Ask, file: &[u8]) -> Line<'_>
             pkg,
             translator,
         },
-        Ask::Load { role } => Line::Load { role, file },
+        Ask::Load { role, file: () } => Line::Load { role, file },
         Ask::Draw { role } => Line::Draw { role },
-        Ask::Publish { role, tag } => Line::Publish {
+        Ask::Publish { role, slip: tag } => Line::Publish {
             role,
             slip: Slip::of_tag(tag),
         },
-        Ask::Withdraw { role, tag } => Line::Withdraw {
+        Ask::Withdraw { role, slip: tag } => Line::Withdraw {
             role,
             slip: Slip::of_tag(tag),
         },
         Ask::Show { role } => Line::Show { role },
-    }
-}
-
-// Ends a slip of a page, and answers its tag.
-fn ended(slip: Option<Slip>) -> Option<u32>
-    ensures { result ≡ option_map (λ s. s.tag) slip }
-{
-    match slip {
-        Some(slip) => Some(slip.spend()),
-        None => None,
     }
 }

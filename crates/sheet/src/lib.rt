@@ -4,10 +4,12 @@
 
 mod entries;
 mod page;
+mod role;
 mod sheet;
 mod slip;
 
 pub use entries::{Ask, Entry, Reply, run_page};
-pub use page::{Answer, Line, Outcome};
-pub use sheet::{Draw, Sheet};
+pub use page::{Answer, Call, Line, Outcome};
+pub use role::Role;
+pub use sheet::{Draw, Sheet, Stands};
 pub use slip::Slip;

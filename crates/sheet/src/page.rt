@@ -5,8 +5,10 @@ mod calls;
 use crate::Slip;
 use refusals::Refusal;
 
-// A call with what it is given, but for the buffers that it is lent.
-pub enum Line<'a> {
+// A call with what it is given, but for the buffers that it is lent. Its slip is an `S`, and its file
+// an `F`.
+#[derive(Clone, Copy)]
+pub enum Call<S, F> {
     Grade {
         role: u32,
         pkg: u32,
@@ -20,23 +22,26 @@ pub enum Line<'a> {
     },
     Load {
         role: u32,
-        file: &'a [u8],
+        file: F,
     },
     Draw {
         role: u32,
     },
     Publish {
         role: u32,
-        slip: Slip,
+        slip: S,
     },
     Withdraw {
         role: u32,
-        slip: Slip,
+        slip: S,
     },
     Show {
         role: u32,
     },
 }
+
+// A call with the slip itself and the file as it is lent.
+pub type Line<'a> = Call<Slip, &'a [u8]>;
 
 #[derive(Clone, Copy)]
 pub enum Outcome {
@@ -48,7 +53,8 @@ pub enum Outcome {
 }
 
 // The slip is a new one, or one that is handed back.
-pub struct Answer {
+#[derive(Clone, Copy)]
+pub struct Answer<S> {
     pub outcome: Outcome,
-    pub slip: Option<Slip>,
+    pub slip: Option<S>,
 }

@@ -1,4 +1,5 @@
 // Codes that a sheet takes, and a list book at its limit.
+use super::opened::opened;
 use books::Sizes;
 use grades::{Kind, Points, Ratings};
 use list_book::ListBook;
@@ -7,22 +8,18 @@ use sheet::Sheet;
 use std::test::Fail;
 use table_book::TableBook;
 
-fn opened<K: Kind>(packages: u32, translators: u32) -> Result<Sheet<TableBook, K>, Fail> {
-    let book = TableBook::new(Sizes::check(packages, translators)?);
-    match Sheet::open(book, 7) {
-        Ok(sheet) => Ok(sheet),
-        Err(_) => Err(Fail::new("an empty book is passed")),
-    }
+fn small<K: Kind>() -> Result<Sheet<TableBook, K>, Fail> {
+    opened(TableBook::new(Sizes::check(2, 2)?), 7)
 }
 
 #[test]
 fn codes_not_valid_get_7(rt: HostRuntime) -> Result<(), Fail> {
-    let mut points = opened::<Points>(2, 2)?;
+    let mut points = small::<Points>()?;
     assert_eq!(rt; points.grade(2, 1, 1, 1), Ok(()));
     assert_eq!(rt; points.grade(2, 1, 1, 1000), Ok(()));
     assert_eq!(rt; points.grade(2, 1, 1, 0), Err(Refusal::Grade));
     assert_eq!(rt; points.grade(2, 1, 1, 1001), Err(Refusal::Grade));
-    let mut ratings = opened::<Ratings>(2, 2)?;
+    let mut ratings = small::<Ratings>()?;
     assert_eq!(rt; ratings.grade(2, 1, 1, 5_120_004), Ok(()));
     assert_eq!(rt;
         ratings.grade(2, 1, 1, 5_120_260),
@@ -35,7 +32,7 @@ fn codes_not_valid_get_7(rt: HostRuntime) -> Result<(), Fail> {
 
 #[test]
 fn reasons_that_meet_in_a_grade(rt: HostRuntime) -> Result<(), Fail> {
-    let mut sheet = opened::<Points>(2, 2)?;
+    let mut sheet = small::<Points>()?;
     assert_eq!(rt;
         sheet.grade(1, 9, 9, 0),
         Err(Refusal::Role),
@@ -68,13 +65,10 @@ fn reasons_that_meet_in_a_grade(rt: HostRuntime) -> Result<(), Fail> {
 
 #[test]
 fn list_book_full_under_a_sheet(rt: HostRuntime) -> Result<(), Fail> {
-    let book = ListBook::new(Sizes::check(48, 64)?);
-    let Ok(mut sheet) = Sheet::<ListBook, Points>::open(book, 1) else {
-        return Err(Fail::new("an empty book is passed"));
-    };
-    for pkg in 0..16u32 {
-        for translator in 0..64u32 {
-            sheet.grade(2, pkg + 1, translator + 1, 10)?;
+    let mut sheet = opened::<_, Points>(ListBook::new(Sizes::check(48, 64)?), 1)?;
+    for pkg in 1..=16 {
+        for translator in 1..=64 {
+            sheet.grade(2, pkg, translator, 10)?;
         }
     }
     assert_eq!(rt; sheet.grade(2, 17, 1, 5), Err(Refusal::Full), "a new pair");

@@ -1,5 +1,6 @@
 // Reasons that meet on a sheet over a list book at its limit, and files that are too long for it.
 use super::on_pages::{Trial, run_trials, tried};
+use super::opened::opened;
 use books::{Book, Sizes};
 use grades::Points;
 use list_book::ListBook;
@@ -40,8 +41,8 @@ fn trials() -> [Trial; 21] {
             0,
             6,
         ),
-        tried(Ask::Load { role: 2 }, 0, 2),
-        tried(Ask::Load { role: 3 }, 0, 5),
+        tried(Ask::Load { role: 2, file: () }, 0, 2),
+        tried(Ask::Load { role: 3, file: () }, 0, 5),
         tried(Ask::Draw { role: 2 }, 48, 101),
         tried(new_pair(2, 5), 0, 3),
         tried(new_pair(2, 0), 0, 3),
@@ -73,34 +74,28 @@ fn trials() -> [Trial; 21] {
             0,
             2,
         ),
-        tried(Ask::Load { role: 2 }, 0, 2),
-        tried(Ask::Load { role: 3 }, 0, 3),
+        tried(Ask::Load { role: 2, file: () }, 0, 2),
+        tried(Ask::Load { role: 3, file: () }, 0, 3),
         tried(Ask::Draw { role: 1 }, 0, 2),
         tried(Ask::Draw { role: 3 }, 47, 3),
-        tried(Ask::Publish { role: 2, tag: 9 }, 0, 2),
-        tried(Ask::Withdraw { role: 1, tag: 1 }, 0, 2),
-        tried(Ask::Withdraw { role: 1, tag: 9 }, 0, 2),
+        tried(Ask::Publish { role: 2, slip: 9 }, 0, 2),
+        tried(Ask::Withdraw { role: 1, slip: 1 }, 0, 2),
+        tried(Ask::Withdraw { role: 1, slip: 9 }, 0, 2),
         tried(Ask::Show { role: 4 }, 0, 2),
-        tried(Ask::Withdraw { role: 2, tag: 1 }, 0, 100),
+        tried(Ask::Withdraw { role: 2, slip: 1 }, 0, 100),
     ]
 }
 
 #[test]
 fn reasons_that_meet_when_full(rt: HostRuntime) -> Result<(), Fail> {
-    let book = ListBook::new(Sizes::check(48, 64)?);
-    let Ok(mut sheet) = Sheet::<ListBook, Points>::open(book, 1) else {
-        return Err(Fail::new("an empty book is passed"));
-    };
+    let mut sheet = opened::<_, Points>(ListBook::new(Sizes::check(48, 64)?), 1)?;
     graded(&mut sheet, 1024)?;
     run_trials(&rt, rt.alloc(), &mut sheet, &trials())
 }
 
 #[test]
 fn a_file_over_the_limit(rt: HostRuntime) -> Result<(), Fail> {
-    let book = TableBook::new(Sizes::check(48, 64)?);
-    let Ok(mut large) = Sheet::<TableBook, Points>::open(book, 1) else {
-        return Err(Fail::new("an empty book is passed"));
-    };
+    let mut large = opened::<_, Points>(TableBook::new(Sizes::check(48, 64)?), 1)?;
     graded(&mut large, 1025)?;
     let mut file = vec![in rt.alloc(); 0u8; 6157]?;
     assert_eq!(rt;
@@ -114,18 +109,14 @@ fn a_file_over_the_limit(rt: HostRuntime) -> Result<(), Fail> {
         Ok(6157),
         "seven bytes, and six for each grade"
     );
-    let book = ListBook::new(Sizes::check(48, 64)?);
-    let Ok(mut sheet) = Sheet::<ListBook, Points>::open(book, 1) else {
-        return Err(Fail::new("an empty book is passed"));
-    };
+    let mut sheet = opened::<_, Points>(ListBook::new(Sizes::check(48, 64)?), 1)?;
     assert_eq!(rt; sheet.load(3, &file), Err(Refusal::Full));
     assert!(rt; file.len() > 6156);
     file[6156] = 1;
-    match sheet.load(3, &file) {
-        Err(refusal) => {
-            assert_eq!(rt; refusal.number(), 10, "the fault before the limit");
-            Ok(())
-        },
-        Ok(()) => Err(Fail::new("a code over 1,000 was loaded")),
-    }
+    assert_eq!(rt;
+        sheet.load(3, &file).map_err(|refusal| refusal.number()),
+        Err(10),
+        "the fault before the limit"
+    );
+    Ok(())
 }

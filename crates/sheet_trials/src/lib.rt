@@ -7,3 +7,5 @@ mod codes;
 mod full;
 #[cfg(test)]
 mod on_pages;
+#[cfg(test)]
+mod opened;

@@ -1,4 +1,5 @@
 // Reasons that meet in one line of a page, with a slip out and without.
+use super::opened::opened;
 use books::{Book, Sizes};
 use grades::Points;
 use sheet::{Ask, Entry, Outcome, Reply, Sheet, run_page};
@@ -62,18 +63,18 @@ fn trials() -> [Trial; 18] {
         tried(Ask::Show { role: 0 }, 0, 2),
         tried(Ask::Draw { role: 2 }, 0, 9),
         tried(Ask::Draw { role: 2 }, 3, 102),
-        tried(Ask::Publish { role: 2, tag: 1 }, 0, 2),
-        tried(Ask::Publish { role: 3, tag: 1 }, 0, 4),
+        tried(Ask::Publish { role: 2, slip: 1 }, 0, 2),
+        tried(Ask::Publish { role: 3, slip: 1 }, 0, 4),
         tried(GRADE, 0, 100),
-        tried(Ask::Load { role: 3 }, 0, 5),
+        tried(Ask::Load { role: 3, file: () }, 0, 5),
         tried(Ask::Draw { role: 3 }, 1, 101),
         tried(Ask::Draw { role: 2 }, 0, 3),
         tried(GRADE, 0, 3),
-        tried(Ask::Load { role: 3 }, 0, 3),
-        tried(Ask::Publish { role: 3, tag: 2 }, 0, 4),
+        tried(Ask::Load { role: 3, file: () }, 0, 3),
+        tried(Ask::Publish { role: 3, slip: 2 }, 0, 4),
         tried(Ask::Show { role: 1 }, 0, 8),
-        tried(Ask::Publish { role: 3, tag: 1 }, 0, 100),
-        tried(Ask::Withdraw { role: 2, tag: 1 }, 0, 4),
+        tried(Ask::Publish { role: 3, slip: 1 }, 0, 100),
+        tried(Ask::Withdraw { role: 2, slip: 1 }, 0, 4),
         tried(Ask::Show { role: 1 }, 0, 9),
         tried(Ask::Show { role: 1 }, 2, 103),
     ]
@@ -87,11 +88,11 @@ pub fn run_trials<B: Book>(
     trials: &[Trial],
 ) -> Result<(), Fail> {
     let mut page = Vec::new(heap);
-    for t in trials.iter() {
+    for t in trials {
         page.push(line(heap, t.ask, t.places)?)?;
     }
     run_page(sheet, &mut page);
-    for (t, e) in trials.iter().zip(page.iter()) {
+    for (t, e) in trials.iter().zip(&page) {
         assert_eq!(rt; number(e.reply), t.number);
     }
     Ok(())
@@ -99,9 +100,6 @@ pub fn run_trials<B: Book>(
 
 #[test]
 fn reasons_that_meet_on_a_page(rt: HostRuntime) -> Result<(), Fail> {
-    let book = TableBook::new(Sizes::check(1, 2)?);
-    let Ok(mut sheet) = Sheet::<TableBook, Points>::open(book, 1) else {
-        return Err(Fail::new("an empty book is passed"));
-    };
+    let mut sheet = opened(TableBook::new(Sizes::check(1, 2)?), 1)?;
     run_trials(&rt, rt.alloc(), &mut sheet, &trials())
 }

@@ -7,4 +7,4 @@ place i j = (i - 1) * 64 + (j - 1)
 
 -- code 0 means no grade
 abbrev pub grade_in : ℕ → Option ℕ
-grade_in code = (if code == 0 then None else Some code)
+grade_in code = if code == 0 then None else Some code

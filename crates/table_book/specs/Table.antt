@@ -6,7 +6,7 @@ use Rattle.table_book.specs.Cells.{place, grade_in}
 use Rattle.table_book.specs.declared.table_book.TableBook.{TableBook}
 
 abbrev pub table_grade : ℕ → ℕ → List ℕ → ℕ → ℕ → Option ℕ
-table_grade p t codes i j = (if inside p t i j then grade_in (slice_index codes (place i j)) else None)
+table_grade p t codes i j = if inside p t i j then grade_in (slice_index codes (place i j)) else None
 
 abbrev pub table_meaning : TableBook → Meaning
 table_meaning b =

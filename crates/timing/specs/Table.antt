@@ -8,7 +8,7 @@ use Rattle.refusals.specs.declared.refusal.Refusal.{Refusal}
 use Rattle.refusals.specs.declared.refusal.Refusal.TheVariants.{Full}
 
 abbrev pub grades_of : ℕ → ℕ → List ℕ → ℕ → ℕ → Option ℕ
-grades_of p t codes k j = (if inside p t k j then grade_of_code (slice_index codes ((k - 1) * t + (j - 1))) else None)
+grades_of p t codes k j = if inside p t k j then grade_of_code (slice_index codes ((k - 1) * t + (j - 1))) else None
 
 -- what a book of these sizes means when the table is in it
 abbrev pub sheet_of : ℕ → ℕ → List ℕ → Meaning

@@ -18,26 +18,26 @@ abbrev pub known : ℕ → Bool
 known kind = kind == 1 || kind == 2
 
 abbrev pub valid_in : ℕ → ℕ → Bool
-valid_in kind = (if kind == 1 then valid_points else valid_rating)
+valid_in kind = if kind == 1 then valid_points else valid_rating
 
 abbrev pub above_in : ℕ → ℕ → ℕ → Bool
-above_in kind = (if kind == 1 then above_points else above_rating)
+above_in kind = if kind == 1 then above_points else above_rating
 
 -- The first reason to refuse: bad sizes, no such kind, more grades than the book's limit, or too
 -- little room for the plan or the set.
 abbrev pub reason_in_book : ℕ → ℕ → ℕ → List ℕ → List ℕ → List ℕ → Option Refusal
 reason_in_book limit p t codes plan set =
-    (if nat_le (count (sheet_of p t codes)) limit
-    then (if (nat_le p (length plan) && nat_le p (length set)) then None else Some refusal.Space)
-    else Some refusal.Full)
+    if nat_le (count (sheet_of p t codes)) limit
+    then (if nat_le p (length plan) && nat_le p (length set) then None else Some refusal.Space)
+    else Some refusal.Full
 
 abbrev pub reason_in_kind : ℕ → ℕ → ℕ → ℕ → List ℕ → List ℕ → List ℕ → Option Refusal
 reason_in_kind limit kind p t codes plan set =
-    (if known kind then reason_in_book limit p t codes plan set else Some refusal.Grade)
+    if known kind then reason_in_book limit p t codes plan set else Some refusal.Grade
 
 abbrev pub reason : ℕ → ℕ → ℕ → ℕ → List ℕ → List ℕ → List ℕ → Option Refusal
 reason limit kind p t codes plan set =
-    (if within p t then reason_in_kind limit kind p t codes plan set else Some refusal.Size)
+    if within p t then reason_in_kind limit kind p t codes plan set else Some refusal.Size
 
 -- The best plan by the grades that are valid in the kind and a tight set; or a short set. A refusal
 -- has the first reason and leaves both buffers as they were.

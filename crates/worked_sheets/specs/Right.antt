@@ -18,7 +18,7 @@ above_in ratings = above_rating
 -- the grade that a list has for a pair, the first if there are several
 abbrev pub grade_in : List (ℕ × ℕ × ℕ) → ℕ → ℕ → Option ℕ
 grade_in [] k j = None
-grade_in (g ∷ gs) k j = (if k == g.0 && j == g.1 then Some g.2 else grade_in gs k j)
+grade_in (g ∷ gs) k j = if k == g.0 && j == g.1 then Some g.2 else grade_in gs k j
 
 abbrev pub meaning : Sheet → Meaning
 meaning s = record { packages = s.packages; translators = s.translators; grade = grade_in s.grades }

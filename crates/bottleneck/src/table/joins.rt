@@ -8,10 +8,11 @@ use super::Table;
 use augmenting::{MOST_PACKAGES, MOST_TRANSLATORS, Pattern};
 use grades::Kind;
 
-// Without a floor no pair counts.
+// Without a floor no pair counts. The table stands in it, since behind a reference each look at a
+// pair takes longer.
 #[derive(Drop)]
-pub struct AtFloor<'t, K: Kind> {
-    pub(crate) table: &'t Table<K>,
+pub struct AtFloor<K: Kind> {
+    pub(crate) table: Table<K>,
     pub(crate) floor: Option<u32>,
     ghost valid: { (code : ℕ) → floor ≡ Some code → K.valid code ≡ true },
 }
@@ -38,10 +39,10 @@ impl<K: Kind> Table<K> {
     }
 }
 
-impl<'t, K: Kind> Pattern for AtFloor<'t, K> {
-    ghost joins = { λ s k j. from_floor K.above s.floor (table_grades s.table.now.codes k j) };
+impl<K: Kind> Pattern for AtFloor<K> {
+    ghost joins = { λ s k j. from_floor K.above s.floor (table_grades s.table.codes k j) };
 
-    ghost translators = { λ s. s.table.now.translators };
+    ghost translators = { λ s. s.table.translators };
 
     ghost few = { Prim.search rules };
 

@@ -26,10 +26,9 @@ fn read_row<R: Reading, K: Kind>(grades: &R, pkg: u8, codes: &mut [u32; 3185])
     ensures before { (x : ℕ) → x < 65 * pkg → slice_index codes.new x ≡ slice_index codes.old x }
     ensures after { (x : ℕ) → 65 * pkg + 64 < x → slice_index codes.new x ≡ 0 }
 {
-    let start = 65 * pkg as usize + 1;
-    let end = start + grades.translators() as usize;
-    for (j, code) in codes[start..end].iter_mut().enumerate() {
-        *code = valid_code::<R, K>(grades, pkg, j as u8 + 1);
+    // by index: through `iter_mut` a whole plan takes an eighth more instructions
+    for j in 0..grades.translators() {
+        codes[65 * pkg as usize + (j + 1) as usize] = valid_code::<R, K>(grades, pkg, j + 1);
     }
 }
 

@@ -31,10 +31,7 @@ impl fmt::Display for Reply<'_> {
                 write!(f, "shown {code}")?;
                 write_plan(f, plan)
             }
-            Reply::Refused(refusal) => {
-                let number = refusal.number();
-                write!(f, "refused {number}")
-            }
+            Reply::Refused(refusal) => write!(f, "refused {}", refusal.number()),
             Reply::BadLine => write!(f, "bad line"),
             Reply::NoSlip => write!(f, "no slip"),
             Reply::Withdrawn => write!(f, "withdrawn"),

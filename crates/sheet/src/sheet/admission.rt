@@ -1,10 +1,14 @@
 // Who may call, and when.
-ghost use Rattle.sheet.specs.Admission.{role_answer, admission, settled};
-ghost use Rattle.sheet.specs.Sheets.{drawn_of, out_of};
+ghost use Rattle.sheet.specs.Admission.{role_answer, admission, gate, after};
+ghost use Rattle.sheet.specs.Sheets.{drawn_of};
 ghost use Rattle.std.specs.Option.{option_map};
 ghost use Rattle.std.specs.Prelude.{◌≡◌};
 
-use super::{Drawn, Sheet, State};
+use super::{Sheet, Stands};
+use crate::Role;
+use books::Book;
+use grades::Kind;
+use matching::Planned;
 use refusals::Refusal;
 
 // A call by what it does to a slip: it wants none out, or spends one of a tag.
@@ -22,41 +26,46 @@ pub(crate) enum Next {
     SlipOutIfDrawn,
 }
 
-// Roles are 1 reader, 2 editor and 3 manager; each may do what the one before may.
-pub(crate) fn check_role(least: u32, role: u32) -> Result<(), Refusal>
+pub(crate) fn check_role(least: Role, role: u32) -> Result<(), Refusal>
     ensures { result ≡ role_answer least role }
 {
-    if role < least || role > 3 {
+    if Role::try_from(role)? < least {
         return Err(Refusal::Role);
     }
     Ok(())
 }
 
 impl<B, K> Sheet<B, K> {
-    // Lets a call in or not, by the state and the call together, and says which state it leaves.
-    pub(crate) fn admit(&self, call: Incoming) -> Result<Next, Refusal>
-        ensures { result ≡ admission (out_of self.now.state) self.now.tag call }
+    // Lets a call in or not, by the role and then by the state.
+    pub(crate) fn let_in(&self, least: Role, role: u32, call: Incoming) -> Result<Next, Refusal>
+        ensures { result ≡ gate least role (option_map drawn_of self.now.out) self.now.tag call }
     {
-        match (self.state, call) {
-            (State::SlipOut(_), Incoming::Edit | Incoming::Draw) => Err(Refusal::SlipOut),
-            (State::Idle, Incoming::Spend(_)) => Err(Refusal::WrongSlip),
-            (State::SlipOut(_), Incoming::Spend(tag)) if tag != self.tag => Err(Refusal::WrongSlip),
-            (State::Idle, Incoming::Draw) => Ok(Next::SlipOutIfDrawn),
-            (State::Idle, Incoming::Edit) | (State::SlipOut(_), Incoming::Spend(_)) => Ok(
-                Next::Idle,
-            ),
-        }
+        check_role(least, role)?;
+        self.admit(call)
     }
 
-    pub(crate) fn settle(&mut self, next: Next, drawn: Option<Drawn>)
-        ensures out { out_of self.new.state ≡ settled next (option_map drawn_of drawn) }
-        ensures book { self.new.book ≡ self.old.book }
-        ensures tag { self.new.tag ≡ self.old.tag }
-        ensures published { self.new.published ≡ self.old.published }
+    // Lets a call in or not, by the state and the call together, and says which state it leaves.
+    pub(crate) fn admit(&self, call: Incoming) -> Result<Next, Refusal>
+        ensures { result ≡ admission (option_map drawn_of self.now.out) self.now.tag call }
     {
-        self.state = match (next, drawn) {
-            (Next::SlipOutIfDrawn, Some(plan)) => State::SlipOut(plan),
-            (_, _) => State::Idle,
+        match (self.out, call) {
+            (Some(_), Incoming::Edit | Incoming::Draw) => Err(Refusal::SlipOut),
+            (None, Incoming::Spend(_)) => Err(Refusal::WrongSlip),
+            (Some(_), Incoming::Spend(tag)) if tag != self.tag => Err(Refusal::WrongSlip),
+            (None, Incoming::Draw) => Ok(Next::SlipOutIfDrawn),
+            (None, Incoming::Edit) | (Some(_), Incoming::Spend(_)) => Ok(Next::Idle),
+        }
+    }
+}
+
+impl<B: Book, K: Kind> Sheet<B, K> {
+    pub(crate) fn settle(&mut self, next: Next, drawn: Option<Planned>)
+        ensures { ⟦<Self as Stands>⟧.stood self.new
+            ≡ after (⟦<Self as Stands>⟧.stood self.old) next (option_map drawn_of drawn) }
+    {
+        self.out = match next {
+            Next::Idle => None,
+            Next::SlipOutIfDrawn => drawn,
         };
     }
 }

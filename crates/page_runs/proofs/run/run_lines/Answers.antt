@@ -11,25 +11,25 @@ loop-line-preserved c =
     let w = c.answer_command-kept.ensures i.0 i.1 in (
       w.1,
       w.2,
-      goes_on (opening_with c.args.sizes.packages c.args.sizes.translators) i.0 w.1 (left_of c.loop-line.lines)
-          (left_of c.next.new.self) (left_of c.args.lines.now) c.in-Some.line.now (said_of c.parse.result)
+      goes_on (opening_with c.args.sizes.packages c.args.sizes.translators) i.0 w.1 (left_of c.loop-line.line-iterator)
+          (left_of c.next.new.self) (left_of c.args.lines) c.in-Some.line.now (said_of c.parse.result)
           (string_bytes c.loop-line.out) (string_bytes c.answer_command-kept.new.out) (string_bytes c.args.out.now) w.0
-          i.2 c.in-Some.ensures c.parse.ensures w.3
-          (made_ok c.answer_command-kept.result.1 c.in_default-told.field-0 _ c.in_default-told.is w.4),
+          i.2 c.in-Some.ensures.steps c.parse.ensures w.3
+          (made_ok c.answer_command-kept.result.1 c.in_default.field-0 _ c.in_default.is w.4),
     )
 
-pub returns-in_ok-tell_remark : goal.returns-in_ok-tell_remark
-returns-in_ok-tell_remark c =
+pub returns-in_ok-tell : goal.returns-in_ok-tell
+returns-in_ok-tell c =
     let i = c.loop-line.invariant in
-    ends_withdrawn c.args.sizes.packages c.args.sizes.translators i.0 (left_of c.loop-line.lines)
-    (left_of c.args.lines.now) (string_bytes c.loop-line.out) (string_bytes c.tell_remark.new.out)
-    (string_bytes c.args.out.now) i.2 c.in_default.ensures
+    ends_withdrawn c.args.sizes.packages c.args.sizes.translators i.0 (left_of c.loop-line.line-iterator)
+    (left_of c.args.lines) (string_bytes c.loop-line.out) (string_bytes c.tell.new.out)
+    (string_bytes c.args.out.now) i.2 c.in-None.ensures.steps.0
     (c.if-close.ensures c.args.sizes.packages c.args.sizes.translators i.0 i.1)
-    c.in_ok-tell_remark.ensures
+    c.in_ok-tell.ensures
 
 pub returns-else-close : goal.returns-else-close
 returns-else-close c =
     let i = c.loop-line.invariant in
-    ends_idle c.args.sizes.packages c.args.sizes.translators i.0 (left_of c.loop-line.lines)
-    (left_of c.args.lines.now) (string_bytes c.loop-line.out) (string_bytes c.args.out.now) i.2
-    c.in_default.ensures (c.if-close.ensures c.args.sizes.packages c.args.sizes.translators i.0 i.1)
+    ends_idle c.args.sizes.packages c.args.sizes.translators i.0 (left_of c.loop-line.line-iterator)
+    (left_of c.args.lines) (string_bytes c.loop-line.out) (string_bytes c.args.out.now) i.2
+    c.in-None.ensures.steps.0 (c.if-close.ensures c.args.sizes.packages c.args.sizes.translators i.0 i.1)

@@ -1,17 +1,22 @@
-use Rattle.plain_text.proofs.Cuts.{pieces_cut, pieces_whole}
+use Rattle.std.proofs.Common.{◌≡◌, rules, ◌==◌, sym, ◌∙◌}
+use Rattle.plain_text.proofs.Cuts.{split_found, split_none}
 use Rattle.plain_text.proofs.pieces.first_piece.Goals as goal
+use Rattle.std.proofs.lemmas.Iterator.{YieldsList-from_slice}
+use Rattle.std.proofs.lemmas.Iterator.Search.{position_from_yields_List}
 use Rattle.std.proofs.lemmas.List.{take_rest}
-use native.Mathlib.Nat.{sub-zero}
-use Rattle.std.proofs.Common.{add-one, arith}
+use Rattle.std.specs.List.{position}
+use borrow.Author.Tests.{tests}
 
-pub returns-then-end-bytes : goal.returns-then-end-bytes
-returns-then-end-bytes c =
-    let e = c.first_index-end.result in
-    simp (sub-zero, take_rest, add-one)
-    (pieces_cut c.args.cut c.args.bytes.now e c.if-end-bytes.true c.first_index-end.ensures.before
-    (c.first_index-end.ensures.found c.if-end-bytes.true))
+pub returns-in-Some : goal.returns-in-Some
+returns-in-Some c =
+    let e : c.position.result ≡ position (λ b. b == c.args.cut) c.args.bytes.now =
+    position_from_yields_List (λ b. b == c.args.cut) _ _ c.position.result c.position.ensures.ran
+    (YieldsList-from_slice c.args.bytes.now c.iter.ensures.rest) (λ x b q k. search (rules, tests)) in
+    simp take_rest (split_found (λ b. b == c.args.cut) c.args.bytes.now c.in-Some.end (sym e ∙ c.in-Some.is))
 
-pub returns-else-end-bytes : goal.returns-else-end-bytes
-returns-else-end-bytes c =
-    pieces_whole c.args.cut c.args.bytes.now
-    (λ k l. c.first_index-end.ensures.before k (omega (arith, c.if-end-bytes.false)))
+pub returns-in-None : goal.returns-in-None
+returns-in-None c =
+    let e : c.position.result ≡ position (λ b. b == c.args.cut) c.args.bytes.now =
+    position_from_yields_List (λ b. b == c.args.cut) _ _ c.position.result c.position.ensures.ran
+    (YieldsList-from_slice c.args.bytes.now c.iter.ensures.rest) (λ x b q k. search (rules, tests)) in
+    split_none (λ b. b == c.args.cut) c.args.bytes.now (sym e ∙ c.in-None.is)

@@ -3,13 +3,13 @@ use Rattle.matching.specs.Answers.{member}
 use Rattle.plan_report.proofs.Growing.{two_parts}
 use Rattle.plan_report.proofs.lines.write_plan.Goals as goal
 use Rattle.plan_report.specs.Texts.{lowest_line, set_line, table, tight_words}
-use Rattle.saved_file.specs.ByItself.{kind_number}
+use Rattle.grades.specs.Names.{kind_number}
 use Rattle.table_book.specs.Table.{table_meaning}
 
 pub returns : goal.returns
 returns c =
-    let rows = table (kind_number c.args.kind) c.args.lowest (table_meaning c.args.grades.now).grade c.args.plan.now (length c.args.plan.now) in
-    let lowest = lowest_line (kind_number c.args.kind) c.args.lowest in
+    let rows = table (kind_number c.args.scale.kind) c.args.scale.lowest (table_meaning c.args.grades.now).grade c.args.plan.now (length c.args.plan.now) in
+    let lowest = lowest_line (kind_number c.args.scale.kind) c.args.scale.lowest in
     let named = set_line tight_words (member c.args.set.now) (length c.args.set.now) in
     let start = string_bytes c.args.out.now in
     two_parts start (rows ++ lowest) named (string_bytes c.writeln.new.self) (string_bytes c.write_set.new.out)

@@ -2,7 +2,7 @@ use Rattle.std.proofs.Common.{◌≡◌, ◌-◌, ◌≤◌, length, string_byte
 use Rattle.file_format.specs.FileOf.{grade_in}
 use Rattle.plan_report.proofs.Telling.{plan_told, short_told}
 use Rattle.plan_report.proofs.whole.tell_draw.Goals as goal
-use Rattle.saved_file.specs.ByItself.{kind_number}
+use Rattle.grades.specs.Names.{kind_number}
 use Rattle.table_book.specs.Table.{table_meaning}
 
 pub returns-in_ok-write_plan-in-Some : goal.returns-in_ok-write_plan-in-Some

@@ -1,25 +1,19 @@
-use Rattle.std.proofs.Common.{◌≡◌, ◌+◌, ◌*◌, ◌≤◌, ap, ◌∙◌, subst, arith}
-use Rattle.books.specs.Meaning.{in_row}
-use Rattle.file_format.specs.FileOf.{row_bytes}
-use Rattle.saved_writer.proofs.Places.{row_fits_more, row_fits_none}
-use Rattle.saved_writer.proofs.Rows.{row_after, row_end, row_room, row_start}
+use Rattle.std.proofs.Common.{◌≡◌, ◌+◌, ◌-◌, ◌≤◌, subst, arith, rules}
+use Rattle.saved_writer.proofs.Rows.{Row, row_room, row_start, row_step}
 use Rattle.saved_writer.proofs.writer.write_row.Goals as goal
-use Rattle.saved_writer.specs.Written.{RowFits, put_at}
 
 pub loop-translator-init : goal.loop-translator-init
 loop-translator-init g c =
-    let w =
-    row_start c.args.pkg ((g.R.Reading.meaning c.args.book.now).grade c.args.pkg) c.args.out.now
-    c.args.at in
-    (w.0, w.1, row_fits_none ((g.R.Reading.meaning c.args.book.now).grade c.args.pkg))
+    (row_start c.args.pkg ((g.R.Reading.meaning c.args.book.now).grade c.args.pkg) c.args.out.now c.args.at, omega arith, omega arith)
 
 pub write_pair-end-requires : goal.write_pair-end-requires
 write_pair-end-requires g c =
     let m = g.R.Reading.meaning c.args.book.now in
-    let k : c.loop-translator.translator + 1 ≤ m.translators = omega (arith, c.translators-translator-end.ensures) in
+    let i = c.loop-translator.invariant in
+    let there : c.loop-translator.translator ≤ m.translators = search rules in
     let r =
-    row_room c.args.pkg (m.grade c.args.pkg) c.args.out.now c.args.at c.loop-translator.translator
-    m.translators c.loop-translator.end c.loop-translator.invariant.0 k c.requires in
+    row_room c.args.pkg (m.grade c.args.pkg) c.args.out.now c.args.at c.loop-translator.translator m.translators
+    c.loop-translator.end c.loop-translator.out i.0 i.1 there c.requires in
     omega (arith, r, c.loop-translator.auto.out)
 
 pub loop-translator-preserved : goal.loop-translator-preserved
@@ -27,22 +21,31 @@ loop-translator-preserved g c =
     let m = g.R.Reading.meaning c.args.book.now in
     let f = m.grade c.args.pkg in
     let j = c.loop-translator.translator in
-    let k : c.loop-translator.translator ≤ m.translators = omega (arith, c.translators-translator-end.ensures) in (
-      row_end c.args.pkg f c.args.out.now c.args.at j c.loop-translator.end c.write_pair-end.result
-          c.loop-translator.invariant.0 c.write_pair-end.ensures.ends,
-      row_after c.args.pkg f c.args.out.now c.args.at j m.translators c.loop-translator.end
-          c.loop-translator.out c.write_pair-end.new.out c.loop-translator.invariant.0 k c.requires
-          c.loop-translator.invariant.1 c.write_pair-end.ensures.after,
-      row_fits_more f j c.loop-translator.invariant.2 c.write_pair-end.ensures.code,
+    let i = c.loop-translator.invariant in
+    let next = c.write_pair-end.result in
+    let out = c.write_pair-end.new.out in
+    let there : c.loop-translator.translator ≤ m.translators = search rules in
+    let same : c.loop-translator.translator ≡ c.loop-translator.translator + 1 - 1 = omega arith in (
+      subst (λ n. Row c.args.pkg f c.args.out.now c.args.at n next out) same
+          (row_step c.args.pkg f c.args.out.now c.args.at j m.translators c.loop-translator.end next
+          c.loop-translator.out out i.0 i.1 there c.requires c.write_pair-end.ensures.ends c.write_pair-end.ensures.after
+          c.write_pair-end.ensures.code),
+      search rules,
+      search rules,
     )
 
-pub returns : goal.returns
-returns g c =
+pub returns-2 : goal.returns-2
+returns-2 g c =
     let m = g.R.Reading.meaning c.args.book.now in
     let f = m.grade c.args.pkg in
-    let e : c.loop-translator.translator ≡ m.translators = omega (arith, c.translators-translator-end.ensures) in
-    record {
-      ends = c.loop-translator.invariant.0 ∙ ap (λ n. c.args.at + 6 * in_row f n) e;
-      after = c.loop-translator.invariant.1 ∙ ap (λ n. put_at c.args.out.now c.args.at (row_bytes c.args.pkg f n)) e;
-      codes = subst (RowFits f) e c.loop-translator.invariant.2;
-    }
+    let j = c.loop-translator.translator in
+    let i = c.loop-translator.invariant in
+    let next = c.write_pair-end.result in
+    let out = c.write_pair-end.new.out in
+    let last : c.loop-translator.translator ≡ m.translators = search rules in
+    let w =
+    subst (λ n. Row c.args.pkg f c.args.out.now c.args.at n next out) last
+    (row_step c.args.pkg f c.args.out.now c.args.at j m.translators c.loop-translator.end next c.loop-translator.out
+    out i.0 i.1 (omega (arith, last)) c.requires c.write_pair-end.ensures.ends c.write_pair-end.ensures.after
+    c.write_pair-end.ensures.code) in
+    record { ends = w.ends; after = w.after; codes = w.codes }

@@ -1,24 +1,10 @@
 use Rattle.std.proofs.Common.{◌<◌, Bool, List, length, get_or, sym, ap, ◌∙◌, subst, arith, rules}
 use Rattle.augmenting.proofs.Necessity.{needed_at}
-use Rattle.augmenting.proofs.Passing.{handed_on_at, kept_passed, kept_taken, taken_at, unseen_falls, unseen_le, failed_at, passed_over}
+use Rattle.augmenting.proofs.Passing.{handed_on_at, unseen_falls, unseen_le, failed_at, passed_over}
 use Rattle.augmenting.proofs.owners.Owners.+augment.Goals as goal
 use Rattle.augmenting.proofs.owners.Owners.+augment.Goals.{then-not-visited-place+then-may_join+else-holder-eq0+else-augment, else-not-visited-place, else-not-visited-place-via-then-not-visited-place+else-may_join, else-not-visited-place-via-else-not-visited-place}
 use Rattle.augmenting.specs.Owners.{Needed}
 use Rattle.std.proofs.lemmas.Bool.{both_ways}
-
-pub returns-then-holder-eq0-clause-kept : goal.returns-then-holder-eq0-clause-kept
-returns-then-holder-eq0-clause-kept g t c k b =
-    kept_taken (g.P.Pattern.joins c.args.pattern.now) (g.P.Pattern.translators c.args.pattern.now) c.args.visited.now c.loop-j.visited c.loop-j.self.places c.loop-j.j c.args.pkg
-    c.if-not-visited-place.true c.loop-j.invariant.1 k b
-    ∙ ap (λ o. get_or o k 0) c.loop-j.invariant.0
-
-pub returns-then-holder-eq0-clause-found : goal.returns-then-holder-eq0-clause-found
-returns-then-holder-eq0-clause-found g t c e z m f =
-    let n = g.P.Pattern.translators c.args.pattern.now in
-    let l : c.loop-j.j < n = search rules in
-    let h : c.loop-j.j < length c.loop-j.self.places = search rules in
-    taken_at (g.P.Pattern.joins c.args.pattern.now) n c.args.visited.now c.loop-j.visited c.loop-j.self.places c.args.self.now.places c.loop-j.j c.args.pkg
-    c.loop-j.invariant.0 c.loop-j.invariant.1 c.loop-j.invariant.2 l h (sym c.if-may_join.ensures) c.if-holder-eq0.true m f
 
 pub augment-requires : goal.augment-requires
 augment-requires g t c κs within =
@@ -26,13 +12,6 @@ augment-requires g t c κs within =
     let k : c.loop-j.j < 64 = search rules in
     let u = unseen_falls c.loop-j.visited c.loop-j.j k h c.if-not-visited-place.true in
     (omega (arith, u, unseen_le c.args.visited.now c.loop-j.visited c.loop-j.invariant.1.grows), within)
-
-pub returns-then-augment-clause-kept : goal.returns-then-augment-clause-kept
-returns-then-augment-clause-kept g t c a b =
-    let k : c.loop-j.j < length c.loop-j.visited = search rules in
-    kept_passed (g.P.Pattern.joins c.args.pattern.now) (g.P.Pattern.translators c.args.pattern.now) c.args.visited.now c.loop-j.visited c.loop-j.self.places c.augment.new.self.places c.loop-j.j c.args.pkg
-    k c.if-not-visited-place.true c.loop-j.invariant.1 c.augment.ensures.kept a b
-    ∙ ap (λ o. get_or o a 0) c.loop-j.invariant.0
 
 pub returns-then-augment-clause-found : goal.returns-then-augment-clause-found
 returns-then-augment-clause-found g t c e y m f =

@@ -2,9 +2,6 @@ use Rattle.augmenting.proofs.Whole.{least_more}
 use Rattle.augmenting.proofs.owners.Owners.place_all_first.Goals as goal
 use Rattle.std.proofs.Common.{arith}
 
-pub loop-i-init : goal.loop-i-init
-loop-i-init g c whole = (whole, λ k l. absurd (omega arith))
-
 pub loop-i-preserved : goal.loop-i-preserved
 loop-i-preserved g c whole =
     let h = c.loop-i.invariant whole in
@@ -14,9 +11,5 @@ loop-i-preserved g c whole =
           (omega arith) h.0 f h.1,
     )
 
-pub returns : goal.returns
-returns g c =
-    record {
-      complete = λ whole. (c.loop-i.invariant whole).0;
-      least = λ whole k l. (c.loop-i.invariant whole).1 k (omega arith);
-    }
+pub returns-clause-least : goal.returns-clause-least
+returns-clause-least g c whole k l = (c.loop-i.invariant whole).1 k (omega arith)

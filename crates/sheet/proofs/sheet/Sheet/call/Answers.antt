@@ -4,16 +4,13 @@ use Rattle.pages.proofs.Off.{same_lines_same_answers, refused_lines_come_off}
 use Rattle.pages.proofs.Runs.{ran_more}
 use Rattle.pages.proofs.Slips.{every_slip_is_counted}
 use Rattle.pages.proofs.Told.{refused_for_the_first_reason, drawn_lines_have_the_best_plan, short_lines_have_no_plan, drawn_where_there_is_a_plan, shows_give_the_published_plan, other_calls_are_done, same_grades_same_plan}
-use Rattle.sheet.proofs.Answered.{ran_fits}
+use Rattle.sheet.proofs.Answered.{led_fits}
 use Rattle.sheet.proofs.sheet.Sheet.call.Goals as goal
-use Rattle.sheet.specs.Sheets.{opening_of, standing_of}
 
 pub returns : goal.returns
 returns g c =
-    let q = opening_of g.B.Book.LIMIT g.K.Kind.NUMBER g.K.Kind.valid g.K.Kind.above g.B.Reading.meaning c.args.self.now in
-    let s = standing_of g.B.Reading.meaning c.args.self.now in
     record {
-      ran = λ o h r. ran_more o q h s _ _ _ _ r (c.answer_to.ensures (ran_fits o h q s r));
+      ran = λ o h r. ran_more o _ h _ _ _ _ _ r (c.answer_to.ensures (led_fits o h _ r));
       refused = refused_for_the_first_reason;
       drawn = drawn_lines_have_the_best_plan;
       short = short_lines_have_no_plan;

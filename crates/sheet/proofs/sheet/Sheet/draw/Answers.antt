@@ -1,15 +1,13 @@
 use Rattle.sheet.proofs.Drawing.{draw_runs, draw_refused}
 use Rattle.sheet.proofs.sheet.Sheet.draw.Goals as goal
-use Rattle.sheet.specs.Sheets.{opening_of, standing_of}
+use Rattle.std.proofs.lemmas.Result.{err_from_is_err_and}
 
-pub returns-in-Ok : goal.returns-in-Ok
-returns-in-Ok g c =
-    draw_runs (opening_of g.B.Book.LIMIT g.K.Kind.NUMBER g.K.Kind.valid g.K.Kind.above g.B.Reading.meaning c.args.self.now)
-    (standing_of g.B.Reading.meaning c.args.self.now) c.args.role c.args.plan.now c.args.set.now c.in-Ok.next
-    c.draw_now.new.plan c.draw_now.new.set _ _ c.in-Ok.ensures c.draw_now.result c.draw_now.ensures
+pub returns : goal.returns
+returns g c =
+    draw_runs _ c.args.role c.args.plan.now c.args.set.now c.in_ok-next.next c.draw_now.new.plan c.draw_now.new.set _
+    c.in_ok-next.ensures c.draw_now.result c.draw_now.ensures
 
-pub returns-in-Err : goal.returns-in-Err
-returns-in-Err g c =
-    draw_refused (opening_of g.B.Book.LIMIT g.K.Kind.NUMBER g.K.Kind.valid g.K.Kind.above g.B.Reading.meaning c.args.self.now)
-    (standing_of g.B.Reading.meaning c.args.self.now) c.args.role c.args.plan.now c.args.set.now c.in-Err.refusal
-    c.in-Err.ensures
+pub returns-in_err-next : goal.returns-in_err-next
+returns-in_err-next g c =
+    let p = err_from_is_err_and c.from_residual.result c.from_residual.ensures.1 in
+    rw (p.1, p.2) (draw_refused _ c.args.role c.args.plan.now c.args.set.now c.in_err-next.field-0.0 c.in_err-next.ensures)
