@@ -1,5 +1,5 @@
 -- What a call for a plan from a table of codes says, and what it leaves in the places lent to it.
-use Rattle.std.specs.Prelude.{◌≡◌, ℕ, ◌*◌, Bool, cond, not, ◌&&◌, List, length, take, Some, None, Ok, Err, Option, Result, nat_le}
+use Rattle.std.specs.Prelude.{◌≡◌, ℕ, ◌*◌, Bool, if◌then◌else◌, not, ◌&&◌, List, length, take, Some, None, Ok, Err, Option, Result, nat_le}
 use Rattle.books.specs.Limits.{within}
 use Rattle.exports.specs.Table.{grades_of}
 use Rattle.exports.specs.declared.reply.Failure.{Failure}
@@ -19,9 +19,9 @@ pub record Places : Type 0 where
 -- too little room.
 abbrev pub reason : Bool → ℕ → ℕ → List ℕ → Places → Option Refusal
 reason right p t codes lent =
-    cond (not (within p t)) (Some refusal.Size)
-    (cond (not right) (Some refusal.Grade)
-    (cond (nat_le (p * t) (length codes) && nat_le p (length lent.plan) && nat_le p (length lent.set)) None (Some refusal.Space)))
+    (if not (within p t) then Some refusal.Size
+    else (if not right then Some refusal.Grade
+    else (if (nat_le (p * t) (length codes) && nat_le p (length lent.plan) && nat_le p (length lent.set)) then None else Some refusal.Space)))
 
 -- The best plan by the table's grades, its code and a tight set; or a short set and nothing else.
 -- A refusal leaves all as it was.

@@ -13,7 +13,7 @@ fn write_front(bytes: &[u8], out: &mut [u8])
     requires { list.length bytes.now ≤ list.length out.old }
     ensures { out.new ≡ bytes.now ++ drop (list.length bytes.now) out.old }
 {
-    out[0..bytes.len()].copy_from_slice(bytes);
+    out[..bytes.len()].copy_from_slice(bytes);
 }
 
 pub(crate) fn page_into(
@@ -24,9 +24,7 @@ pub(crate) fn page_into(
 ) -> Result<Reply, Failure>
     ensures { PagedAs input.now (record { bytes = output.old; length = length.old }) (record { bytes = output.new; length = length.new }) result }
 {
-    let Ok(text) = answers(heap, input) else {
-        return Err(Failure::NoMemory);
-    };
+    let text = answers(heap, input)?;
     let bytes = text.as_bytes();
     *length = bytes.len();
     if output.len() < bytes.len() {

@@ -7,11 +7,12 @@ use super::checks::first_are_right;
 use super::reply::{Failure, Reply};
 use super::table::{CodeTable, pairs_of};
 use books::Sizes;
-use grades::{Kind, Points, Ratings};
-use matching::{Answer, match_into};
+use grades::{Kind, KindName, Points, Ratings};
+use matching::match_into;
 use refusals::Refusal;
 
 // In sizes that have been checked, in one kind.
+// The places stay apart: C lends each by itself, and clauses name what each held and holds.
 fn plan_in<K: Kind>(
     sizes: Sizes,
     codes: &[u32],
@@ -30,15 +31,12 @@ fn plan_in<K: Kind>(
         return Err(Failure::Refused(Refusal::Space));
     }
     let table = CodeTable { sizes, codes };
-    match match_into::<CodeTable<&[u32]>, K>(&table, plan, set)? {
-        Answer::Planned {
-            plan: _,
-            lowest: code,
-        } => {
-            *lowest = code;
+    match match_into::<CodeTable, K>(&table, plan, set)? {
+        Some(planned) => {
+            *lowest = planned.lowest;
             Ok(Reply::Done)
         }
-        Answer::Short => Ok(Reply::Short),
+        None => Ok(Reply::Short),
     }
 }
 
@@ -55,9 +53,9 @@ pub(crate) fn plan_from_codes(
     ensures { PlannedAs (above_in kind) (right_in kind (take (packages * translators) codes.now)) packages translators codes.now (record { plan = plan.old; set = set.old; lowest = lowest.old }) (record { plan = plan.new; set = set.new; lowest = lowest.new }) result }
 {
     let sizes = Sizes::check(packages, translators)?;
-    match kind {
-        1 => plan_in::<Points>(sizes, codes, plan, set, lowest),
-        2 => plan_in::<Ratings>(sizes, codes, plan, set, lowest),
-        _ => Err(Failure::Refused(Refusal::Grade)),
+    let number = u8::try_from(kind).map_err(|_| Refusal::Grade)?;
+    match KindName::try_from(number).map_err(|_| Refusal::Grade)? {
+        KindName::Points => plan_in::<Points>(sizes, codes, plan, set, lowest),
+        KindName::Ratings => plan_in::<Ratings>(sizes, codes, plan, set, lowest),
     }
 }

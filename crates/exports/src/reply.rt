@@ -1,9 +1,10 @@
 // What a call says, and the number that stands for it.
 ghost use Rattle.exports.specs.Replies.{number};
-ghost use Rattle.exports.specs.declared.reply.Failure.TheVariants.{Refused};
+ghost use Rattle.exports.specs.declared.reply.Failure.TheVariants.{NoMemory, Refused};
 ghost use Rattle.std.specs.Prelude.{◌≡◌};
 
 use refusals::Refusal;
+use std::alloc::AllocError;
 
 #[derive(Clone, Copy)]
 pub(crate) enum Reply {
@@ -17,7 +18,7 @@ pub(crate) enum Failure {
     Refused(Refusal),
 }
 
-// So that `?` carries a refusal, unchanged, out of a call.
+// So that `?` carries a refusal, unchanged, out of a call, and a lack of memory.
 impl From<Refusal> for Failure {
     ghost from_gives = { λ refusal r. r ≡ Refused refusal };
 
@@ -26,6 +27,15 @@ impl From<Refusal> for Failure {
     }
 }
 
+impl From<AllocError> for Failure {
+    ghost from_gives = { λ _ r. r ≡ NoMemory };
+
+    fn from(_: AllocError) -> Failure {
+        Failure::NoMemory
+    }
+}
+
+// One match: two conversions for the two sides and their join would say the same in more lines.
 pub(crate) fn number_of(said: Result<Reply, Failure>) -> u32
     ensures { result ≡ number said }
 {
