@@ -64,7 +64,8 @@ fn run_entry<B: Book, K: Kind>(sheet: &mut Sheet<B, K>, entry: &mut Entry)
     };
 }
 
-// The line of an entry. Its slip is made here, inside the crate, of any tag.
+// The line of an entry. Its slip is made here, inside the crate, of any tag. A map over the two
+// parameters of a call has the same seven arms.
 fn line_of(ask: Ask, file: &[u8]) -> Line<'_>
     ensures { (plan set : List ℕ) → asked_of result plan set ≡ asked_in ask file.now plan set }
 {
