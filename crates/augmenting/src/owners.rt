@@ -2,7 +2,8 @@
 ghost use Rattle.std.specs.Prelude.{◌≡◌, ℕ, ◌<◌, false, true, length, ◌≢◌, slice_index, nat_lt, ◌&&◌};
 ghost use Rattle.augmenting.specs.Owners.{seen};
 
-// At place j stands the number of the package that translator j + 1 has, or 0.
+// At place j stands the number of the package that translator j + 1 has, or 0: the definitions speak
+// of these bytes as numbers, and an `Option` in each would be no plainer.
 #[derive(Clone, Copy)]
 pub struct Owners {
     pub(crate) places: [u8; 64],

@@ -12,7 +12,7 @@ mod reads;
 
 pub use joins::AtFloor;
 
-// Code 0 is no grade.
+// Code 0 is no grade, as in the table book, whose array of numbers is a rule of the project.
 #[derive(Drop)]
 pub struct Table<K: Kind> {
     codes: [u32; 3185],

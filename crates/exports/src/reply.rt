@@ -6,6 +6,7 @@ ghost use Rattle.std.specs.Prelude.{◌≡◌};
 use refusals::Refusal;
 use std::alloc::AllocError;
 
+// The two good ends, each with a number of its own for C.
 #[derive(Clone, Copy)]
 pub(crate) enum Reply {
     Done,

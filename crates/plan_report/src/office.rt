@@ -53,6 +53,7 @@ pub(crate) fn draw_by_head(head: Head, file: &[u8], plan: &mut [u16], set: &mut 
     requires room { (48 ≤ length plan.old) × (48 ≤ length set.old) }
     ensures { Settled (above_in (kind_number head.kind)) (grade_in file.now) head.sizes.packages head.sizes.translators plan.new set.new result }
 {
+    // here a kind as a value becomes a type; a function passed in its place could not be generic
     match head.kind {
         KindName::Points => draw_file::<Points>(file, head.sizes, plan, set),
         KindName::Ratings => draw_file::<Ratings>(file, head.sizes, plan, set),

@@ -14,6 +14,7 @@ pub enum Problem {
     Refused(usize, Refusal),
 }
 
+// Words of this program alone, so that they are no `Display` of the refusal.
 fn reason(refusal: Refusal) -> &'static str {
     match refusal {
         Refusal::Size => "a book has 1 to 48 packages and 1 to 64 translators",

@@ -33,7 +33,8 @@ fn number(reply: Reply) -> u32 {
     }
 }
 
-// A call, how long its buffers are, and the number that it must be answered with.
+// A call, how long its buffers are, and the number that it must be answered with: a number, so that a
+// row reads as the rules do.
 #[derive(Clone, Copy)]
 pub struct Trial {
     ask: Ask,

@@ -16,6 +16,7 @@ use table_book::TableBook;
 
 const SHORT: u32 = 100;
 
+// Numbers, since C calls this; `exports` has its own, and neither crate rests on the other.
 fn tell(answer: Result<Option<Planned>, Refusal>, lowest: &mut u32) -> u32
     ensures number { result ≡ told answer }
     ensures lowest { lowest.new ≡ lowest_after answer lowest.old }
@@ -56,6 +57,7 @@ fn plan_of<B: Book>(
     ensures { DrawnAs (valid_in kind) (above_in kind) (reason_in_kind B.LIMIT kind (B.Reading.meaning book.old).packages (B.Reading.meaning book.old).translators codes.now plan.old set.old) (B.Reading.meaning book.old).packages (B.Reading.meaning book.old).translators codes.now plan.old set.old plan.new set.new result }
 {
     let number = u8::try_from(kind).map_err(|_| Refusal::Grade)?;
+    // here a kind as a value becomes a type; a function passed in its place could not be generic
     match KindName::try_from(number).map_err(|_| Refusal::Grade)? {
         KindName::Points => plan_in_kind::<B, Points>(book, codes, repeats, plan, set),
         KindName::Ratings => plan_in_kind::<B, Ratings>(book, codes, repeats, plan, set),

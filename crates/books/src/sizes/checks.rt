@@ -12,6 +12,7 @@ const MOST_PACKAGES: u32 = 48;
 const MOST_TRANSLATORS: u32 = 64;
 
 impl Sizes {
+    // No `TryFrom`, since it takes two numbers that are easily turned round.
     pub fn check(packages: u32, translators: u32) -> Result<Sizes, Refusal>
         ensures { checked result ≡ sizes_of packages translators }
     {

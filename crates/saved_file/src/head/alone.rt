@@ -13,6 +13,7 @@ pub fn check_by_itself<'a>(file: &'a [u8]) -> Result<CheckedFile<'a>, Fault>
     ensures { MatchResult result (λ f. (f.file.now ≡ file.now) × Right (by_itself file.now) file.now) (λ fault. Faulty (by_itself file.now) file.now fault) }
 {
     let head = read_head(file)?;
+    // here a kind as a value becomes a type; a function passed in its place could not be generic
     match head.kind {
         KindName::Points => check_file::<Points>(file, head.sizes),
         KindName::Ratings => check_file::<Ratings>(file, head.sizes),
