@@ -24,6 +24,7 @@ impl Owners {
         ensures least { Complete (P.joins pattern.now) packages (P.translators pattern.now) self.old.places
             → (k : ℕ) → k < packages → Least (P.joins pattern.now) packages (P.translators pattern.now) self.new.places k }
     {
+        // `1..=packages` has a second way out, after its last number, where a step is proved again
         for i in 0..packages {
             self.place_first(pattern, i + 1);
         }

@@ -31,6 +31,7 @@ fn tell(answer: Result<Option<Planned>, Refusal>, lowest: &mut u32) -> u32
     }
 }
 
+// The buffers stay apart: C lends each by itself, and clauses name what each held and holds.
 fn plan_in_kind<B: Book, K: Kind>(
     book: &mut B,
     codes: &[u32],
