@@ -14,6 +14,7 @@ use table_book::TableBook;
 
 const TAG: u32 = 1;
 
+// One line, as in the page program, which promises the same of points alone.
 fn open_sheet<K: Kind>(sizes: Sizes) -> Sheet<TableBook, K>
     ensures { RanOn K.NUMBER K.valid K.above sizes.packages sizes.translators [] result }
 {
