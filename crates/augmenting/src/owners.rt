@@ -10,6 +10,15 @@ pub struct Owners {
     ghost full: { length places ≡ 64 },
 }
 
+// Any note may be taken up: what the steps say of a path found holds where it is a matching.
+impl From<[u8; 64]> for Owners {
+    ghost from_gives = { λ places owners. owners.places ≡ places };
+
+    fn from(places: [u8; 64]) -> Owners {
+        Owners { places }
+    }
+}
+
 impl Owners {
     // Nobody has anyone.
     pub fn none() -> Owners

@@ -17,7 +17,7 @@ pub struct BestMatching {
     pub tight: Members,
 }
 
-// Of the grades that are valid in the kind, or a set that is short where there is none.
+// By the grades that are valid in the kind; or a short set, where there is no whole matching.
 pub fn best_matching<R: Reading, K: Kind>(grades: &R) -> Result<BestMatching, Members>
     ensures { let m = R.meaning grades.now in Found K.valid K.above (valid_grades K.valid m) m.packages m.translators result }
 {

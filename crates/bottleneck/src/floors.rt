@@ -95,7 +95,7 @@ pub(crate) fn match_all<K: Kind>(counted: &mut AtFloor<K>) -> Result<BestMatchin
     let mut owners = Owners::none();
     // without a floor no pair counts, so that package 1 is left over
     let mut floor = counted.lower(1, &owners, &[false; 64])?;
-    // an inclusive range has a second way out, after its last number, where a step is proved again
+    // from 0, since an inclusive range ends in two ways, and a step would have to be proved at both
     for i in 0..counted.table.packages {
         floor = place(counted, i + 1, floor, &mut owners)?;
     }

@@ -10,8 +10,9 @@ codes_right valid codes = list_all (λ code. code == 0 || valid code) codes
 
 abbrev pub right_in : ℕ → List ℕ → Bool
 right_in kind codes =
-    (if kind == 1 then codes_right valid_points codes
-    else (if kind == 2 then codes_right valid_rating codes else false))
+    if kind == 1 then codes_right valid_points codes
+    else if kind == 2 then codes_right valid_rating codes
+    else false
 
 abbrev pub above_in : ℕ → ℕ → ℕ → Bool
-above_in kind = (if kind == 1 then above_points else above_rating)
+above_in kind = if kind == 1 then above_points else above_rating

@@ -19,9 +19,10 @@ pub record Places : Type 0 where
 -- too little room.
 abbrev pub reason : Bool → ℕ → ℕ → List ℕ → Places → Option Refusal
 reason right p t codes lent =
-    (if not (within p t) then Some refusal.Size
-    else (if not right then Some refusal.Grade
-    else (if (nat_le (p * t) (length codes) && nat_le p (length lent.plan) && nat_le p (length lent.set)) then None else Some refusal.Space)))
+    if not (within p t) then Some refusal.Size
+    else if not right then Some refusal.Grade
+    else if nat_le (p * t) (length codes) && nat_le p (length lent.plan) && nat_le p (length lent.set) then None
+    else Some refusal.Space
 
 -- The best plan by the table's grades, its code and a tight set; or a short set and nothing else.
 -- A refusal leaves all as it was.

@@ -7,7 +7,7 @@ use Rattle.bottleneck.specs.Codes.{grade_of_code}
 use Rattle.exports.specs.declared.table.CodeTable.{CodeTable}
 
 abbrev pub grades_of : ℕ → ℕ → List ℕ → ℕ → ℕ → Option ℕ
-grades_of p t codes k j = (if inside p t k j then grade_of_code (slice_index codes ((k - 1) * t + (j - 1))) else None)
+grades_of p t codes k j = if inside p t k j then grade_of_code (slice_index codes ((k - 1) * t + (j - 1))) else None
 
 abbrev pub table_meaning : CodeTable → Meaning
 table_meaning b =

@@ -7,4 +7,4 @@ mod records;
 mod words;
 
 pub use laws::{file_is_right, right_is_the_file, right_or_one_fault, same_grades_same_bytes};
-pub use records::{GradeRecord, SheetRecord};
+pub use records::{GradeRecord, SheetRecord, Summary};

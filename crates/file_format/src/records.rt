@@ -8,6 +8,13 @@ pub struct SheetRecord {
     pub translators: u8,
 }
 
+// The record of section 1 with the number of grade records.
+#[derive(Clone, Copy, PartialEq, Eq, Debug)]
+pub struct Summary {
+    pub sheet: SheetRecord,
+    pub grades: u16,
+}
+
 // A record of section 2: the code of one pair.
 #[derive(Clone, Copy, PartialEq, Eq, Debug)]
 pub struct GradeRecord {

@@ -1,8 +1,8 @@
 // The records of a file in words.
-ghost use Rattle.file_format.specs.Words.{grade_line, sheet_words};
+ghost use Rattle.file_format.specs.Words.{grade_line, sheet_line, sheet_words};
 ghost use Rattle.std.specs.Prelude.{Some};
 
-use super::{GradeRecord, SheetRecord};
+use super::{GradeRecord, SheetRecord, Summary};
 use grades::KindName;
 use std::fmt;
 
@@ -17,6 +17,14 @@ impl fmt::Display for SheetRecord {
             "{kind}, packages {}, translators {}",
             self.packages, self.translators,
         )
+    }
+}
+
+impl fmt::Display for Summary {
+    ghost output = { λ found. Some (sheet_line found.sheet found.grades) };
+
+    fn fmt<W: fmt::Write>(&self, f: &mut fmt::Formatter<W>) -> fmt::Result {
+        write!(f, "{}, grades {}", self.sheet, self.grades)
     }
 }
 

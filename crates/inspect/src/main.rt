@@ -2,6 +2,7 @@
 // wrong with it and where.
 #![tactic(auto)]
 
+use file_format::Summary;
 use saved_file::{CheckedFile, check_by_itself};
 use std::io;
 use std::io::Read;
@@ -20,11 +21,11 @@ fn main(rt: HostRuntime) -> io::Result<()> {
 
 // A line for the kind and the sizes, and one for each grade.
 fn print_file(rt: &HostRuntime, file: &CheckedFile<'_>) -> io::Result<()> {
-    let count = file.count();
+    let grades = file.count();
     if let Some(sheet) = file.sheet_record() {
-        println!(rt; "{sheet}, grades {count}")?;
+        println!(rt; "{}", Summary { sheet, grades })?;
     }
-    for found in (1..=count).filter_map(|number| file.record(number)) {
+    for found in (1..=grades).filter_map(|number| file.record(number)) {
         println!(rt; "{found}")?;
     }
     Ok(())

@@ -31,11 +31,12 @@ said_of (command.Withdraw r) = Said.withdraws r
 said_of (command.Show r) = Said.shows r
 said_of (command.Unknown w) = Said.unknown w.now
 
--- what a word says with n numbers after it; with others it is a word that is not known
+-- what a word says with its numbers, or that it is not known
 abbrev pub taken : List ℕ → (List ℕ → Said) → Option (List ℕ) → Said
 taken w f None = Said.unknown w
 taken w f (Some ns) = f ns
 
+-- what a word says with n numbers after it; with more or fewer it is not known
 abbrev pub with_numbers : ℕ → List ℕ → (List ℕ → Said) → Option (List ℕ) → Said
 with_numbers n w f ns = taken w f (exactly n ns)
 

@@ -3,7 +3,7 @@ ghost use Rattle.grades.specs.Names.{kind_number};
 ghost use Rattle.plan_report.specs.Texts.{fault_text, head_line};
 ghost use Rattle.std.specs.Prelude.{◌≡◌, IfOk, string_bytes};
 
-use file_format::SheetRecord;
+use file_format::Summary;
 use refusals::Fault;
 use saved_file::Head;
 use std::alloc::{AllocError, Global};
@@ -17,6 +17,9 @@ pub(crate) fn fault_line(heap: Global, fault: Fault) -> Result<String, AllocErro
 pub(crate) fn head_line(heap: Global, head: Head, count: u16) -> Result<String, AllocError>
     ensures { IfOk result (λ s. string_bytes s ≡ head_line (kind_number head.kind) head.sizes.packages head.sizes.translators count) }
 {
-    let sheet = SheetRecord::from(head);
-    Ok(format!(in heap; "{sheet}, grades {count}\n")?)
+    let summary = Summary {
+        sheet: head.into(),
+        grades: count,
+    };
+    Ok(format!(in heap; "{summary}\n")?)
 }

@@ -12,5 +12,5 @@ pub use reader::check_file;
 pub struct CheckedFile<'a> {
     file: &'a [u8],
     count: u16,
-    ghost counted: { count ≡ count_in file.now },
+    pub ghost counted: { count ≡ count_in file.now },
 }

@@ -9,7 +9,7 @@ use file_format::{GradeRecord, SheetRecord};
 use grades::Kind;
 use refusals::Refusal;
 
-// `out` and `at` stay two: a struct that holds the loan needs a clause on its end in each function.
+// `out` and `at` stay two: of a struct that held the loan each function would have to say where it ends.
 
 // The six bytes of one grade.
 fn write_grade(out: &mut [u8], at: usize, found: GradeRecord)

@@ -11,7 +11,7 @@ number_of role.Reader = 1
 number_of role.Editor = 2
 number_of role.Manager = 3
 
--- the role of this number, or a refusal where no role may do so much as a reader
+-- the role of this number, or a refusal where it is the number of no role
 abbrev pub IsNamed : ℕ → Result Role Refusal → Type 0
 IsNamed number r =
     MatchResult r (λ x. number_of x ≡ number) (λ e. (e ≡ refusal.Role) × (may 1 number ≡ false))

@@ -5,7 +5,7 @@ ghost use Rattle.std.specs.Prelude.{◌≡◌, true, false};
 // lets one go.
 pub struct Slip {
     tag: u32,
-    // A rule of the project asks for a drop contract, and this is what it names.
+    // A rule of the project asks for a drop contract, and a contract needs a field to speak of.
     spent: bool,
 }
 

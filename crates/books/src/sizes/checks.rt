@@ -12,7 +12,7 @@ const MOST_PACKAGES: u32 = 48;
 const MOST_TRANSLATORS: u32 = 64;
 
 impl Sizes {
-    // No `TryFrom`, since it takes two numbers that are easily turned round.
+    // No `TryFrom`: a pair of numbers would be made for the call alone.
     pub fn check(packages: u32, translators: u32) -> Result<Sizes, Refusal>
         ensures { checked result ≡ sizes_of packages translators }
     {

@@ -41,7 +41,7 @@ impl<K: Kind> Table<K> {
         let packages = grades.packages();
         let translators = grades.translators();
         let mut codes = [0; 3185];
-        // an inclusive range has a second way out, after its last number, where a step is proved again
+        // from 0, since an inclusive range ends in two ways, and a step would have to be proved at both
         for k in 0..packages {
             read_row::<R, K>(grades, k + 1, &mut codes);
         }

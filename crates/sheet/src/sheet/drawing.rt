@@ -22,7 +22,7 @@ pub struct Draw {
 
 impl<B: Book, K: Kind> Sheet<B, K> {
     // Writes the best plan and a tight set, and hands out a slip; or writes a short set, where there
-    // is no full plan. A rule of the project lends the two buffers, each by itself.
+    // is no full plan. By a rule of the project the two buffers are lent, each by itself.
     pub fn draw(
         &mut self,
         role: u32,
