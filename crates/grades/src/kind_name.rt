@@ -14,7 +14,21 @@ pub enum KindName {
 
 // A number that is no kind's.
 #[derive(Clone, Copy, PartialEq, Eq, Debug)]
-pub struct UnknownKind(pub u8);
+pub struct UnknownKind(pub u32);
+
+impl TryFrom<u32> for KindName {
+    type Error = UnknownKind;
+
+    ghost try_from_gives = { Names };
+
+    fn try_from(number: u32) -> Result<KindName, UnknownKind> {
+        match u8::try_from(number) {
+            Ok(Points::NUMBER) => Ok(KindName::Points),
+            Ok(Ratings::NUMBER) => Ok(KindName::Ratings),
+            _ => Err(UnknownKind(number)),
+        }
+    }
+}
 
 impl TryFrom<u8> for KindName {
     type Error = UnknownKind;
@@ -22,11 +36,7 @@ impl TryFrom<u8> for KindName {
     ghost try_from_gives = { Names };
 
     fn try_from(number: u8) -> Result<KindName, UnknownKind> {
-        match number {
-            Points::NUMBER => Ok(KindName::Points),
-            Ratings::NUMBER => Ok(KindName::Ratings),
-            _ => Err(UnknownKind(number)),
-        }
+        KindName::try_from(u32::from(number))
     }
 }
 
