@@ -53,9 +53,8 @@ pub(crate) fn plan_from_codes(
     ensures { PlannedAs (above_in kind) (right_in kind (take (packages * translators) codes.now)) packages translators codes.now (record { plan = plan.old; set = set.old; lowest = lowest.old }) (record { plan = plan.new; set = set.new; lowest = lowest.new }) result }
 {
     let sizes = Sizes::check(packages, translators)?;
-    let number = u8::try_from(kind).map_err(|_| Refusal::Grade)?;
     // here a kind as a value becomes a type; a function passed in its place could not be generic
-    match KindName::try_from(number).map_err(|_| Refusal::Grade)? {
+    match KindName::try_from(kind).map_err(|_| Refusal::Grade)? {
         KindName::Points => plan_in::<Points>(sizes, codes, plan, set, lowest),
         KindName::Ratings => plan_in::<Ratings>(sizes, codes, plan, set, lowest),
     }

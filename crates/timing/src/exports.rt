@@ -57,9 +57,8 @@ fn plan_of<B: Book>(
     requires { Empty (B.Reading.meaning book.old) }
     ensures { DrawnAs (valid_in kind) (above_in kind) (reason_in_kind B.LIMIT kind (B.Reading.meaning book.old).packages (B.Reading.meaning book.old).translators codes.now plan.old set.old) (B.Reading.meaning book.old).packages (B.Reading.meaning book.old).translators codes.now plan.old set.old plan.new set.new result }
 {
-    let number = u8::try_from(kind).map_err(|_| Refusal::Grade)?;
     // here a kind as a value becomes a type; a function passed in its place could not be generic
-    match KindName::try_from(number).map_err(|_| Refusal::Grade)? {
+    match KindName::try_from(kind).map_err(|_| Refusal::Grade)? {
         KindName::Points => plan_in_kind::<B, Points>(book, codes, repeats, plan, set),
         KindName::Ratings => plan_in_kind::<B, Ratings>(book, codes, repeats, plan, set),
     }
