@@ -7,9 +7,9 @@ use refusals::Refusal;
 // Each may do what the one before may.
 #[derive(Clone, Copy, Debug, PartialEq, Eq, PartialOrd, Ord)]
 pub enum Role {
-    Reader,
-    Editor,
-    Manager,
+    Reader = 1,
+    Editor = 2,
+    Manager = 3,
 }
 
 impl TryFrom<u32> for Role {
@@ -31,10 +31,6 @@ impl From<Role> for u32 {
     ghost from_gives = { λ role number. number ≡ number_of role };
 
     fn from(role: Role) -> u32 {
-        match role {
-            Role::Reader => 1,
-            Role::Editor => 2,
-            Role::Manager => 3,
-        }
+        role as u32
     }
 }
