@@ -47,8 +47,8 @@ pub fn run_page<B: Book, K: Kind>(sheet: &mut Sheet<B, K>, page: &mut [Entry])
     ensures loaded { LoadedFilesAreSavedOnes }
     ensures same_plan { SameGradesSamePlan }
 {
-    for e in page.iter_mut() {
-        run_entry(sheet, e);
+    for entry in page {
+        run_entry(sheet, entry);
     }
 }
 

@@ -12,34 +12,34 @@ use Rattle.sheet.specs.Sheets.{LedTo, stood_of}
 use Rattle.sheet.specs.declared.entries.Entry.{Entry}
 use Rattle.std.proofs.lemmas.List.{take_all}
 
-pub loop-e-preserved : goal.loop-e-preserved
-loop-e-preserved g c =
+pub loop-entry-preserved : goal.loop-entry-preserved
+loop-entry-preserved g c =
     let xs = c.args.page.now in
-    let ys = c.loop-e.page in
-    let i = c.loop-e.e-index in
+    let ys = c.loop-entry.entry-items in
+    let i = c.loop-entry.entry-index in
     let y = c.run_entry.new.entry in
-    let d = c.e-item.result in
+    let d = c.entry-item.result in
     let es = events_in (take i xs) (take i ys) in
-    let item : get_or ys i d ≡ get_or xs i d = same_item xs ys i d c.loop-e.invariant.1 in (
+    let item : get_or ys i d ≡ get_or xs i d = same_item xs ys i d c.loop-entry.invariant.1 in (
       (λ o h r.
           let grown : run_on h (events_in (take (i + 1) xs) (take (i + 1) (set ys i y))) ≡ event_in (get_or ys i d) y ∷ run_on h es =
-          ap (run_on h) (events_more xs ys i d y c.loop-e.auto.page c.loop-e-test.true)
+          ap (run_on h) (events_more xs ys i d y c.loop-entry.auto.entry-items c.loop-entry-test.true)
           ∙ run_push h es (event_in (get_or xs i d) y)
           ∙ ap (λ (z : Entry). event_in z y ∷ run_on h es) (sym item) in
           subst
           (λ (z : List Event). LedTo o z (stood_of g.B.Book.LIMIT g.K.Kind.NUMBER g.K.Kind.valid g.K.Kind.above g.B.Reading.meaning c.run_entry.new.sheet))
-          (sym grown) (c.run_entry.ensures o (run_on h es) (c.loop-e.invariant.0 o h r))),
-      same_rest xs ys i y c.loop-e.invariant.1,
+          (sym grown) (c.run_entry.ensures o (run_on h es) (c.loop-entry.invariant.0 o h r))),
+      same_rest xs ys i y c.loop-entry.invariant.1,
     )
 
 pub returns : goal.returns
 returns g c =
     let xs = c.args.page.now in
-    let ys = c.loop-e.page in
-    let i = c.loop-e.e-index in
-    let all : take i ys ≡ ys = take_all i ys (omega (arith, c.loop-e-test.false, c.loop-e.auto.page)) in
+    let ys = c.loop-entry.entry-items in
+    let i = c.loop-entry.entry-index in
+    let all : take i ys ≡ ys = take_all i ys (omega (arith, c.loop-entry-test.false, c.loop-entry.auto.entry-items)) in
     record {
-      ran = λ o h r. rw (take_all i xs c.loop-e-test.false, all) at (c.loop-e.invariant.0 o h r);
+      ran = λ o h r. rw (take_all i xs c.loop-entry-test.false, all) at (c.loop-entry.invariant.0 o h r);
       refused = refused_for_the_first_reason;
       drawn = drawn_lines_have_the_best_plan;
       short = short_lines_have_no_plan;
