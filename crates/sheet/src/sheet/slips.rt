@@ -21,8 +21,7 @@ impl<B: Book, K: Kind> Sheet<B, K> {
             → RanLine (⟦<Self as Stands>⟧.stood self.old) (⟦<Self as Stands>⟧.stood self.new)
             (asked role (Call.publish slip.tag) plan set) (told_spent result plan set) }
     {
-        let drawn = self.spend_slip(Role::Manager, role, slip)?;
-        self.published = drawn;
+        self.published = self.spend_slip(Role::Manager, role, slip)?;
         Ok(())
     }
 

@@ -9,12 +9,12 @@ use Rattle.std.specs.Option.{option_map}
 
 pub returns : goal.returns
 returns g c plan set =
-    published _ _ c.args.role c.args.slip plan set (option_map drawn_of c.in_ok-drawn.drawn) c.in_ok-drawn.ensures.answer
-    c.in_ok-drawn.ensures.after
+    published _ _ c.args.role c.args.slip plan set (option_map drawn_of c.in_ok-self.field-0) c.in_ok-self.ensures.answer
+    c.in_ok-self.ensures.after
 
-pub returns-in_err-drawn : goal.returns-in_err-drawn
-returns-in_err-drawn g c plan set =
+pub returns-in_err-self : goal.returns-in_err-self
+returns-in_err-self g c plan set =
     let p = err_from_is_err_and c.from_residual.result c.from_residual.ensures.1 in
     rw (p.1, p.2)
     (not_spent _ _ c.args.role c.args.slip plan set (Call.publish c.args.slip.tag) (publishing c.args.slip.tag) Manager refl
-    c.in_err-drawn.field-0.0 c.in_err-drawn.ensures.answer c.in_err-drawn.ensures.after)
+    c.in_err-self.field-0.0 c.in_err-self.ensures.answer c.in_err-self.ensures.after)
