@@ -6,7 +6,7 @@ use crate::Slip;
 use refusals::Refusal;
 
 // A call with what it is given, but for the buffers that it is lent. Its slip is an `S`, and its file
-// an `F`.
+// an `F`. A role is any number, since any may be given and is refused.
 #[derive(Clone, Copy)]
 pub enum Call<S, F> {
     Grade {

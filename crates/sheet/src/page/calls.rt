@@ -15,6 +15,7 @@ use grades::Kind;
 impl<B: Book, K: Kind> Sheet<B, K> {
     // Runs a line with its own buffers: every history that led to this sheet grows by this line and
     // its answer. The other clauses are what holds over every such history.
+    // They stand here and on `run_page`, since the rules ask both calls to carry these promises.
     pub fn call(&mut self, line: Line<'_>, plan: &mut [u16], set: &mut [u8]) -> Answer<Slip>
         ensures ran { (o : Opened) (h : List Event) → LedTo o h (⟦<Self as Stands>⟧.stood self.old)
             → LedTo o (event_of line.entry plan.old set.old result plan.new set.new ∷ h)
