@@ -3,16 +3,13 @@
 #![tactic(auto)]
 
 use file_format::Summary;
-use saved_file::{CheckedFile, check_by_itself};
+use saved_file::{CheckedFile, ONE_BYTE_TOO_MANY, check_by_itself};
 use std::io;
 use std::io::Read;
 
-// The longest file, and one byte more: nothing after it can change what is told.
-const ENOUGH_BYTES: u64 = 18_440;
-
 fn main(rt: HostRuntime) -> io::Result<()> {
     let mut file = Vec::new(rt.alloc());
-    rt.stdin().take(ENOUGH_BYTES).read_to_end(&mut file)?;
+    rt.stdin().take(ONE_BYTE_TOO_MANY).read_to_end(&mut file)?;
     match check_by_itself(&file) {
         Ok(checked) => print_file(&rt, &checked),
         Err(fault) => println!(rt; "{fault}"),
@@ -25,7 +22,7 @@ fn print_file(rt: &HostRuntime, file: &CheckedFile<'_>) -> io::Result<()> {
     if let Some(sheet) = file.sheet_record() {
         println!(rt; "{}", Summary { sheet, grades })?;
     }
-    for found in (1..=grades).filter_map(|number| file.record(number)) {
+    for found in file.records() {
         println!(rt; "{found}")?;
     }
     Ok(())

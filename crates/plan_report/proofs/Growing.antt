@@ -1,6 +1,12 @@
 -- Lines added one after the other.
 use Rattle.std.proofs.Common.{◌≡◌, ℕ, zero, suc, ◌+◌, ◌<◌, Bool, cond, List, [], ◌++◌, get_or, codes, decimal, Option, sym, refl, ap, ◌∙◌, append_assoc, append-nil, add-one, arith}
 use Rattle.plan_report.specs.Texts.{pair_line, table, members}
+use Rattle.std.specs.Prelude.{Result, Ok, Err, IfOk}
+
+-- what holds where a call was right gives another such fact
+pub if_ok : {A E : Type 0} (r : Result A E) (P Q : A → Type 0) → ((a : A) → P a → Q a) → IfOk r P → IfOk r Q
+if_ok (Ok a) P Q f h = f a h
+if_ok (Err e) P Q f h = h
 
 pub two_parts : (start a b first second : List ℕ) → first ≡ start ++ a → second ≡ first ++ b → second ≡ start ++ (a ++ b)
 two_parts start a b first second x y = y ∙ ap (λ (w : List ℕ). w ++ b) x ∙ append_assoc start a b

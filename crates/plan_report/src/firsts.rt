@@ -21,5 +21,5 @@ pub(crate) fn head_line(heap: Global, head: Head, count: u16) -> Result<String, 
         sheet: head.into(),
         grades: count,
     };
-    Ok(format!(in heap; "{summary}\n")?)
+    format!(in heap; "{summary}\n")
 }

@@ -1,4 +1,4 @@
-// The lines of a report, each into the text.
+// The lines of a report, each into the text; `out` is the writer.
 ghost use Rattle.std.specs.Prelude.{◌≡◌, ◌+◌, ◌<◌, ◌≤◌, [], ◌++◌, length, if◌then◌else◌, string_bytes, codes, decimal, OnOk, ◌==◌};
 ghost use Rattle.matching.specs.Answers.{member};
 ghost use Rattle.plan_report.specs.Texts.{members, pair_line, set_line, table, tight_words, short_words, lowest_line, no_plan_line};
@@ -40,8 +40,7 @@ fn write_pair(out: &mut String, scale: Scale, pair: Pair) -> Result<(), AllocErr
         grade,
     } = pair;
     let grade = ToldGrade { scale, grade };
-    writeln!(out, "package {pkg}: translator {translator}, {grade}")?;
-    Ok(())
+    writeln!(out, "package {pkg}: translator {translator}, {grade}")
 }
 
 // The pairs of a plan, by the grades of a book.
@@ -86,8 +85,7 @@ fn write_set(out: &mut String, words: &str, set: &[u8]) -> Result<(), AllocError
 {
     write!(out, "{words}")?;
     write_members(out, set)?;
-    writeln!(out)?;
-    Ok(())
+    writeln!(out)
 }
 
 // The table of a plan, its lowest grade, and a tight set.
@@ -107,8 +105,7 @@ pub(crate) fn write_plan(
         code: scale.lowest,
     };
     writeln!(out, "lowest grade: {lowest}")?;
-    write_set(out, "packages to work on:", set)?;
-    Ok(())
+    write_set(out, "packages to work on:", set)
 }
 
 // What is told where there is no full plan, with a short set.
@@ -116,6 +113,5 @@ pub(crate) fn write_short(out: &mut String, set: &[u8]) -> Result<(), AllocError
     ensures { OnOk result (string_bytes out.new ≡ string_bytes out.old ++ (no_plan_line ++ set_line short_words (member set.now) (length set.now))) }
 {
     writeln!(out, "no full plan")?;
-    write_set(out, "packages in each other's way:", set)?;
-    Ok(())
+    write_set(out, "packages in each other's way:", set)
 }

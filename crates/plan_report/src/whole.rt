@@ -48,23 +48,18 @@ fn tell_draw(
     let mut set = [0u8; 48];
     let packages = usize::from(head.sizes.packages());
     match draw_by_head(head, file, &mut plan, &mut set) {
-        Some(lowest) => {
-            write_plan(
-                out,
-                Scale {
-                    kind: head.kind,
-                    lowest,
-                },
-                grades,
-                &plan[0..packages],
-                &set[0..packages],
-            )?;
-        }
-        None => {
-            write_short(out, &set[0..packages])?;
-        }
+        Some(lowest) => write_plan(
+            out,
+            Scale {
+                kind: head.kind,
+                lowest,
+            },
+            grades,
+            &plan[..packages],
+            &set[..packages],
+        ),
+        None => write_short(out, &set[..packages]),
     }
-    Ok(())
 }
 
 // The report on a file that was found right.
@@ -74,7 +69,7 @@ fn report_right(heap: Global, file: &[u8], checked: &CheckedFile<'_>) -> Result<
     ensures { IfOk result (λ text. Report file.now (string_bytes text)) }
 {
     let Ok(head) = read_head(file) else {
-        unreachable()
+        unreachable!()
     };
     let grades = grades_in(checked, head);
     let mut text = head_line(heap, head, checked.count())?;

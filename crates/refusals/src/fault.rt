@@ -28,8 +28,8 @@ pub enum Layer {
 pub struct Fault {
     pub cause: Cause,
     pub layer: Layer,
+    // the rules number both, with 0 where there is none: for the whole file, or the count of a section
     pub section: u8,
-    // 0 for the count of the section
     pub record: u16,
     // of the first byte of that count or record, from 0
     pub offset: usize,

@@ -1,3 +1,4 @@
 pub mod ByItself
 pub mod Cursors
 pub mod Expecting
+pub mod Records

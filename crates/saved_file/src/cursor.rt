@@ -1,4 +1,5 @@
 // A place in a lent file: the bytes before it have been read.
+// A struct of the file and a place: a rule of the project names this form.
 ghost use Rattle.std.specs.Prelude.{◌≤◌, length};
 
 mod expected;

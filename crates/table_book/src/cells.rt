@@ -8,6 +8,7 @@ const ROW: u32 = 64;
 
 #[derive(Drop)]
 pub(crate) struct Cells {
+    // a rule of the project names this form: an array of numbers, 0 for none
     codes: [u32; 3072],
     ghost whole: { length codes ≡ 3072 },
 }

@@ -9,6 +9,7 @@ use file_format::{GradeRecord, SheetRecord};
 fn front_record(bytes: &[u8]) -> Option<GradeRecord>
     ensures { result ≡ (if nat_le 6 (length bytes.now) then Some (six_bytes bytes.now) else None) }
 {
+    // a rule of the project names a pattern of six bytes here
     let &[pkg, translator, c0, c1, c2, c3, ..] = bytes else {
         return None;
     };
