@@ -161,6 +161,30 @@ pub tried_more :
 tried_more C k w x j g here r a l c =
     ⊎_elim (λ q. ap (seen x) q ∙ here (ap (λ n. C k (n + 1)) (sym q) ∙ c)) (λ d. g a (r a (omega arith) c)) (cases_eq a j)
 
+-- a free translator taken
+pub taken :
+    (C : ℕ → ℕ → Bool) (t : ℕ) (v w : List Bool) (o : List ℕ) (j i : ℕ)
+    → Matching C t o → Free o i → j < t → j < length o → C i (j + 1) ≡ true → get_or o j 0 ≡ 0
+    → Closed C t o v w → Tried C i w j → Augmented C t v i o (set o j i)
+taken C t v w o j i m f l h e z s r =
+    record {
+      matching = passed_matching C t o j i m f l h e;
+      keeps = λ k p q. ⊎_elim (λ x. absurd (omega arith)) (λ x. x) (has_passed o j i k q);
+      only = λ k p q. passed_has o j i k h q;
+      place = j;
+      placed = get_or-set_same o j i 0 h;
+      first = record { marks = w; closed = s; tried = r };
+    }
+
+-- the same, where the note in hand is known to be an earlier one
+pub taken_at :
+    (C : ℕ → ℕ → Bool) (t : ℕ) (v w : List Bool) (o a : List ℕ) (j i : ℕ) → o ≡ a → Closed C t o v w
+    → Tried C i w j → j < t → j < length o → C i (j + 1) ≡ true → get_or o j 0 ≡ 0
+    → Matching C t a → Free a i → Augmented C t v i a (set o j i)
+taken_at C t v w o a j i e s r l h c z m f =
+    subst (λ (x : List ℕ). Augmented C t v i x (set o j i)) e
+    (taken C t v w o j i (subst (λ (x : List ℕ). Matching C t x) (sym e) m) (subst (λ (x : List ℕ). Free x i) (sym e) f) l h c z s r)
+
 -- the same, where the note in hand is known to be an earlier one
 pub handed_on_at :
     (C : ℕ → ℕ → Bool) (t : ℕ) (v w : List Bool) (o a n : List ℕ) (j i : ℕ) → o ≡ a → Closed C t o v w

@@ -167,10 +167,10 @@ least_stays C p t i o n c f k h l least m g agree j e =
     least m g (λ b x. stays C p t i o n c f b (omega arith) (omega arith) (m b) (agree b x)) j (stays C p t i o n c f k h l j e)
 
 pub least_more :
-    (C : ℕ → ℕ → Bool) (p t i : ℕ) (o n : List ℕ) → i < p → Complete C p t o → PlacedFirst C p t (i + 1) o n
-    → ((k : ℕ) → k < i → Least C p t o k) → (k : ℕ) → k < i + 1 → Least C p t n k
-least_more C p t i o n l c f before k h =
+    (C : ℕ → ℕ → Bool) (p t i : ℕ) (o n : List ℕ) → 0 < i → i ≤ p → Complete C p t o → PlacedFirst C p t i o n
+    → ((k : ℕ) → k + 1 < i → Least C p t o k) → (k : ℕ) → k < i → Least C p t n k
+least_more C p t i o n z l c f before k h =
     ⊎_elim
-    (λ q. f.least k (ap (λ x. x + 1) q))
-    (λ d. least_stays C p t (i + 1) o n c f k (omega arith) (omega arith) (before k (omega arith)))
-    (cases_eq k i)
+    (λ q. f.least k q)
+    (λ d. least_stays C p t i o n c f k (omega arith) (omega arith) (before k (omega arith)))
+    (cases_eq (k + 1) i)

@@ -24,9 +24,8 @@ impl Owners {
         ensures least { Complete (P.joins pattern.now) packages (P.translators pattern.now) self.old.places
             → (k : ℕ) → k < packages → Least (P.joins pattern.now) packages (P.translators pattern.now) self.new.places k }
     {
-        // from 0, since `1..=packages` ends in two ways, and a step would have to be proved at both
-        for i in 0..packages {
-            self.place_first(pattern, i + 1);
+        for pkg in 1..=packages {
+            self.place_first(pattern, pkg);
         }
     }
 }

@@ -47,7 +47,7 @@ impl Members {
         ensures one { (k : ℕ) → k + 1 ≡ pkg → k < 48 → seen self.new.places k ≡ true }
         ensures others { (k : ℕ) → (k + 1 ≢ pkg) → seen self.new.places k ≡ seen self.old.places k }
     {
-        if 0 < pkg && pkg <= MOST_PACKAGES {
+        if (1..=MOST_PACKAGES).contains(&pkg) {
             self.places[usize::from(pkg) - 1] = true;
         }
     }

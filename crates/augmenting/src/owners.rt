@@ -37,7 +37,7 @@ impl Owners {
     pub(crate) fn marks_before(&self, pkg: u8) -> [bool; 64]
         ensures { (j : ℕ) → seen result j ≡ (nat_lt 0 (slice_index self.now.places j) && nat_lt (slice_index self.now.places j) pkg) }
     {
-        // an array's `map` would take several times as long as this loop
+        // by index: after `iter_mut().zip` no proof knows the marks, and `map` takes several times as long
         let mut marks = [false; 64];
         for (j, owner) in self.places.iter().enumerate() {
             marks[j] = 0 < *owner && *owner < pkg;

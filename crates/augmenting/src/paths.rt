@@ -22,14 +22,11 @@ impl Owners {
         // by index, since the call within needs all places and all marks
         for j in 0..pattern.translator_count() {
             let place = j as usize;
-            if !visited[place] && pattern.may_join(pkg, place as u8 + 1) {
+            if !visited[place] && pattern.may_join(pkg, j + 1) {
                 visited[place] = true;
                 let holder = self.places[place];
                 self.places[place] = pkg;
-                if holder == 0 {
-                    return true;
-                }
-                if self.augment(pattern, holder, visited) {
+                if holder == 0 || self.augment(pattern, holder, visited) {
                     return true;
                 }
                 self.places[place] = holder;

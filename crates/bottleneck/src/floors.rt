@@ -37,13 +37,9 @@ impl<K: Kind> AtFloor<K> {
             (λ short. OneFewer (graded (table_grades table.codes)) table.packages table.translators (seen short.places)) }
     {
         let set = Members::owners_and(pkg, owners, visited);
-        match self.table.highest(&set, visited) {
-            Some(code) => {
-                self.floor = Some(code);
-                Ok(Floor { code, tight: set })
-            }
-            None => Err(set),
-        }
+        let code = self.table.highest(&set, visited).ok_or(set)?;
+        self.floor = Some(code);
+        Ok(Floor { code, tight: set })
     }
 }
 

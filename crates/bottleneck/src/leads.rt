@@ -42,7 +42,7 @@ impl<K: Kind> Table<K> {
         let mut best = None;
         // a fold would owe at each turn that the search of the next row may be called
         for k in 0..self.packages {
-            if set.has(k as usize) {
+            if set.has(usize::from(k)) {
                 best = self.highest_in_row(k + 1, visited, best);
             }
         }

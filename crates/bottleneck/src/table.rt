@@ -12,10 +12,15 @@ mod reads;
 
 pub use joins::AtFloor;
 
+// A row has a place for each translator by its number, from 0; so has the table for each package.
+const ROW: usize = 65;
+
+const CODES: usize = 49 * ROW;
+
 // Code 0 is no grade, as in the table book, whose array of numbers is a rule of the project.
 #[derive(Drop)]
 pub struct Table<K: Kind> {
-    codes: [u32; 3185],
+    codes: [u32; CODES],
     pub(crate) packages: u8,
     pub(crate) translators: u8,
     kind: PhantomData<K>,

@@ -40,7 +40,7 @@ pub fn match_into<R: Reading, K: Kind>(
 {
     let packages = grades.packages();
     let room = plan.len().min(set.len());
-    if room < packages as usize {
+    if room < usize::from(packages) {
         return Err(Refusal::Space);
     }
     match best_plan::<R, K>(grades) {

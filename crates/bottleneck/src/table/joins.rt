@@ -4,7 +4,7 @@ ghost use Rattle.bottleneck.specs.Floors.{from_floor};
 ghost use Rattle.std.specs.Prelude.{◌≡◌, ℕ, ◌+◌, ◌<◌, ◌≤◌, Some, true, length, slice_index};
 ghost use Rattle.std.proofs.Common.{rules};
 
-use super::Table;
+use super::{ROW, Table};
 use augmenting::{MOST_PACKAGES, MOST_TRANSLATORS, Pattern};
 use grades::Kind;
 
@@ -22,7 +22,7 @@ impl<K: Kind> Table<K> {
         ensures { result ≡ code_at self.now.codes pkg translator }
     {
         if pkg <= MOST_PACKAGES && translator <= MOST_TRANSLATORS {
-            self.codes[65 * pkg as usize + translator as usize]
+            self.codes[ROW * usize::from(pkg) + usize::from(translator)]
         } else {
             0
         }
@@ -34,8 +34,8 @@ impl<K: Kind> Table<K> {
         ensures long { length result.now ≡ self.now.translators }
         ensures codes { (j : ℕ) → j < self.now.translators → slice_index result.now j ≡ code_at self.now.codes pkg (j + 1) }
     {
-        let start = 65 * pkg as usize + 1;
-        &self.codes[start..start + self.translators as usize]
+        let start = ROW * usize::from(pkg) + 1;
+        &self.codes[start..start + usize::from(self.translators)]
     }
 }
 

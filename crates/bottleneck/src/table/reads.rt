@@ -3,7 +3,7 @@ ghost use Rattle.std.specs.Prelude.{◌≡◌, ℕ, ◌+◌, ◌*◌, ◌<◌, �
 ghost use Rattle.bottleneck.specs.Codes.{table_grades, grade_of_code};
 ghost use Rattle.bottleneck.specs.Grades.{valid_grades};
 
-use super::Table;
+use super::{CODES, ROW, Table};
 use books::Reading;
 use grades::Kind;
 use std::marker::PhantomData;
@@ -19,7 +19,7 @@ fn valid_code<R: Reading, K: Kind>(grades: &R, pkg: u8, translator: u8) -> u32
 }
 
 // The row of one package, into an empty row.
-fn read_row<R: Reading, K: Kind>(grades: &R, pkg: u8, codes: &mut [u32; 3185])
+fn read_row<R: Reading, K: Kind>(grades: &R, pkg: u8, codes: &mut [u32; CODES])
     requires within { pkg ≤ 48 }
     requires empty { (x : ℕ) → 65 * pkg ≤ x → slice_index codes.old x ≡ 0 }
     ensures row { (j : ℕ) → j ≤ 64 → grade_of_code (slice_index codes.new (65 * pkg + j)) ≡ valid_grades K.valid (R.meaning grades.now) pkg j }
@@ -28,7 +28,7 @@ fn read_row<R: Reading, K: Kind>(grades: &R, pkg: u8, codes: &mut [u32; 3185])
 {
     // by index: through `iter_mut` a whole plan takes an eighth more instructions
     for j in 0..grades.translators() {
-        codes[65 * pkg as usize + (j + 1) as usize] = valid_code::<R, K>(grades, pkg, j + 1);
+        codes[ROW * usize::from(pkg) + usize::from(j + 1)] = valid_code::<R, K>(grades, pkg, j + 1);
     }
 }
 
@@ -40,7 +40,7 @@ impl<K: Kind> Table<K> {
     {
         let packages = grades.packages();
         let translators = grades.translators();
-        let mut codes = [0; 3185];
+        let mut codes = [0; CODES];
         // from 0, since an inclusive range ends in two ways, and a step would have to be proved at both
         for k in 0..packages {
             read_row::<R, K>(grades, k + 1, &mut codes);

@@ -1,9 +1,9 @@
 use Rattle.std.proofs.Common.{◌<◌, Bool, List, length, get_or, sym, ap, ◌∙◌, subst, arith, rules}
 use Rattle.augmenting.proofs.Necessity.{needed_at}
-use Rattle.augmenting.proofs.Passing.{handed_on_at, unseen_falls, unseen_le, failed_at, passed_over}
+use Rattle.augmenting.proofs.Passing.{handed_on_at, taken_at, unseen_falls, unseen_le, failed_at, passed_over}
 use Rattle.augmenting.proofs.owners.Owners.+augment.Goals as goal
-use Rattle.augmenting.proofs.owners.Owners.+augment.Goals.{then-not-visited-place+then-may_join+else-holder-eq0+else-augment, else-not-visited-place, else-not-visited-place-via-then-not-visited-place+else-may_join, else-not-visited-place-via-else-not-visited-place}
-use Rattle.augmenting.specs.Owners.{Needed}
+use Rattle.augmenting.proofs.owners.Owners.+augment.Goals.{then-holder-eq0-via-then-holder-eq0, then-holder-eq0-via-else-holder-eq0+then-augment, then-not-visited-place+then-may_join+else-holder-eq0+else-augment, else-not-visited-place, else-not-visited-place-via-then-not-visited-place+else-may_join, else-not-visited-place-via-else-not-visited-place}
+use Rattle.augmenting.specs.Owners.{Augmented, Needed}
 use Rattle.std.proofs.lemmas.Bool.{both_ways}
 
 pub augment-requires : goal.augment-requires
@@ -13,15 +13,26 @@ augment-requires g t c κs within =
     let u = unseen_falls c.loop-j.visited c.loop-j.j k h c.if-not-visited-place.true in
     (omega (arith, u, unseen_le c.args.visited.now c.loop-j.visited c.loop-j.invariant.1.grows), within)
 
-pub returns-then-augment-clause-found : goal.returns-then-augment-clause-found
-returns-then-augment-clause-found g t c e y m f =
-    let n = g.P.Pattern.translators c.args.pattern.now in
-    let l : c.loop-j.j < n = search rules in
-    let h : c.loop-j.j < length c.loop-j.self.places = search rules in
-    let k : c.loop-j.j < length c.loop-j.visited = search rules in
-    let z : 0 < get_or c.loop-j.self.places c.loop-j.j 0 = omega (arith, c.if-holder-eq0.false) in
-    handed_on_at (g.P.Pattern.joins c.args.pattern.now) n c.args.visited.now c.loop-j.visited c.loop-j.self.places c.args.self.now.places c.augment.new.self.places c.loop-j.j c.args.pkg
-    c.loop-j.invariant.0 c.loop-j.invariant.1 c.loop-j.invariant.2 l h k (sym c.if-may_join.ensures) z c.augment.ensures.kept (c.augment.ensures.found c.if-augment.true z) m f
+pub returns-then-holder-eq0-clause-found : goal.returns-then-holder-eq0-clause-found
+returns-then-holder-eq0-clause-found g t c e y m f =
+    elim c.then-holder-eq0.branch [
+      | then-holder-eq0-via-then-holder-eq0 w ↦
+          let n = g.P.Pattern.translators c.args.pattern.now in
+          let l : c.loop-j.j < n = search rules in
+          let h : c.loop-j.j < length c.loop-j.self.places = search rules in
+          subst (Augmented (g.P.Pattern.joins c.args.pattern.now) n c.args.visited.now c.args.pkg c.args.self.now.places) (sym (ap (λ z. z.places) w.self-is))
+          (taken_at (g.P.Pattern.joins c.args.pattern.now) n c.args.visited.now c.loop-j.visited c.loop-j.self.places c.args.self.now.places c.loop-j.j c.args.pkg
+          c.loop-j.invariant.0 c.loop-j.invariant.1 c.loop-j.invariant.2 l h (sym c.if-may_join.ensures) w.if-holder-eq0.true m f)
+      | then-holder-eq0-via-else-holder-eq0+then-augment w ↦
+          let n = g.P.Pattern.translators c.args.pattern.now in
+          let l : c.loop-j.j < n = search rules in
+          let h : c.loop-j.j < length c.loop-j.self.places = search rules in
+          let k : c.loop-j.j < length c.loop-j.visited = search rules in
+          let z : 0 < get_or c.loop-j.self.places c.loop-j.j 0 = omega (arith, w.if-holder-eq0.false) in
+          subst (Augmented (g.P.Pattern.joins c.args.pattern.now) n c.args.visited.now c.args.pkg c.args.self.now.places) (sym (ap (λ z. z.places) w.self-is))
+          (handed_on_at (g.P.Pattern.joins c.args.pattern.now) n c.args.visited.now c.loop-j.visited c.loop-j.self.places c.args.self.now.places w.augment.new.self.places c.loop-j.j c.args.pkg
+          c.loop-j.invariant.0 c.loop-j.invariant.1 c.loop-j.invariant.2 l h k (sym c.if-may_join.ensures) z w.augment.ensures.kept (w.augment.ensures.found w.if-augment.true z) m f)
+    ]
 
 pub loop-j-preserved : goal.loop-j-preserved
 loop-j-preserved g t c =
