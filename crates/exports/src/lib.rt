@@ -22,6 +22,7 @@ use std::alloc::Global;
 // The best plan by a table of codes, its lowest code and a tight set; or a short set.
 #[unsafe(no_mangle)]
 pub extern "C" fn planning_sheet_plan(
+    // a number, since C hands over a number and any may come
     kind: u32,
     packages: u32,
     translators: u32,
