@@ -41,9 +41,8 @@ impl<K: Kind> Table<K> {
         let packages = grades.packages();
         let translators = grades.translators();
         let mut codes = [0; CODES];
-        // from 0, since an inclusive range ends in two ways, and a step would have to be proved at both
-        for k in 0..packages {
-            read_row::<R, K>(grades, k + 1, &mut codes);
+        for pkg in 1..=packages {
+            read_row::<R, K>(grades, pkg, &mut codes);
         }
         Table {
             codes,
