@@ -1,4 +1,4 @@
 mod Cuts
 mod Ends
-mod Parsed
 mod Rows
+mod Values

@@ -10,10 +10,18 @@ const MOST_DIGITS: usize = 9;
 pub fn numeral(digits: &[u8]) -> Option<u32>
     ensures { result ≡ numeral_of digits.now }
 {
-    if digits.len() > MOST_DIGITS || !digits.iter().all(u8::is_ascii_digit) {
+    if !(1..=MOST_DIGITS).contains(&digits.len()) {
         return None;
     }
-    str::from_utf8(digits).ok()?.parse().ok()
+    // one pass: `from_utf8` and `parse` would go over the digits twice more
+    let mut value = 0;
+    for digit in digits {
+        if !digit.is_ascii_digit() {
+            return None;
+        }
+        value = 10 * value + u32::from(*digit - b'0');
+    }
+    Some(value)
 }
 
 // The N numbers that the words are, or none where they are no numbers, fewer or more.
