@@ -1,5 +1,5 @@
 -- Codes that are right: each is 0 or valid, so that every grade of their table counts in the kind.
-use Rattle.std.proofs.Common.{◌≡◌, ℕ, zero, suc, ◌+◌, ◌-◌, ◌*◌, ◌<◌, Bool, true, false, if◌then◌else◌, ◌||◌, ◌==◌, List, [], ◌∷◌, slice_index, take, Some, None, Option, refl, subst, mul_comm, arith}
+use Rattle.std.proofs.Common.{◌≡◌, ℕ, zero, suc, ◌+◌, ◌-◌, ◌*◌, ◌<◌, ◌≤◌, Bool, true, false, if◌then◌else◌, ◌||◌, ◌==◌, List, [], ◌∷◌, slice_index, take, length, min, Some, None, Option, refl, sym, ap, ◌∙◌, subst, ⊎_elim, mul_comm, arith}
 use Rattle.books.proofs.Inside.{lies}
 use Rattle.books.specs.Limits.{inside}
 use Rattle.bottleneck.specs.Codes.{grade_of_code}
@@ -7,8 +7,8 @@ use Rattle.bottleneck.specs.Grades.{counted}
 use Rattle.exports.specs.Kinds.{codes_right}
 use Rattle.exports.specs.Table.{grades_of}
 use Rattle.std.proofs.lemmas.Nat.{mul-add-lt}
-use Rattle.std.proofs.lemmas.List.{get_or-take}
-use Rattle.std.proofs.lemmas.Bool.{and_parts, cond-true}
+use Rattle.std.proofs.lemmas.List.{get_or-take, take_all}
+use Rattle.std.proofs.lemmas.Bool.{and_parts, cases_lt, cond-true}
 
 right_at :
     (valid : ℕ → Bool) (xs : List ℕ) → codes_right valid xs ≡ true → (i : ℕ)
@@ -16,6 +16,14 @@ right_at :
 right_at valid [] e i = refl
 right_at valid (x ∷ xs) e zero = (and_parts (x == 0 || valid x) (codes_right valid xs) e).0
 right_at valid (x ∷ xs) e (suc i) = right_at valid xs (and_parts (x == 0 || valid x) (codes_right valid xs) e).1 i
+
+-- the first n, or as many as are there
+pub take_there : (n m : ℕ) (xs : List ℕ) → m ≡ min n (length xs) → take m xs ≡ take n xs
+take_there n m xs e =
+    ⊎_elim
+    (λ (l : n < length xs). ap (λ (k : ℕ). take k xs) (omega (arith, e)))
+    (λ (l : length xs ≤ n). ap (λ (k : ℕ). take k xs) (omega (arith, e)) ∙ take_all (length xs) xs (omega arith) ∙ sym (take_all n xs l))
+    (cases_lt n (length xs))
 
 counted_code : (valid : ℕ → Bool) (x : ℕ) (b : Bool) → (b || valid x) ≡ true → counted valid (if b then None else Some x) ≡ (if b then None else Some x)
 counted_code valid x true e = refl
